@@ -1,0 +1,83 @@
+-- What document 01 adds to the original, by example: the order of refusals, and the map record. One table, proved of the definitions by
+-- computation.
+use Prim.Native.Nat.{ℕ}
+use mathlib.Core.List.{List, [], _∷_, _++_, map}
+use mathlib.Core.Path.{_≡_, refl}
+use lib.ListN.{length, replicate, take}
+use lib.Ieee.{nan, binary64}
+use Rattle.rules.specs.RefusalNumbers.{given, refused}
+use Rattle.rules.specs.RefusalNumbers.{dimensionTooSmall, capacityOverflow, badModel, badBuffer}
+use Rattle.rules.specs.RefusalNumbers.{badBeams, badFrame, brokenRecord, noRoom}
+use Rattle.rules.specs.Floats.{zeroF, halfF, oneF}
+use Rattle.rules.specs.TheGridAndItsBounds.{Model, Head, Grid}
+use Rattle.rules.specs.Coordinates.{within}
+use Rattle.rules.specs.MapRecord.{recordBytes, anyRecordOf}
+use Rattle.rules.specs.RefusalNumbers.Entries.{Outcome, newEntry}
+use Rattle.rules.specs.RefusalNumbers.Entries.{updateScanEntry, readRecordEntry}
+use Rattle.rules.specs.RefusalNumbers.Entries.{writeRecordEntry}
+use Rattle.rules.specs.FiguresToTestOn.{plus, minus, model, headOf, fresh, upTo3, lent, scanOf, opened}
+
+-- the record of the map of 2 by 2 with odds 0, 1, 2, 3 at frame 2
+abbrev stored : List ℕ
+stored = recordBytes (headOf 2 2 2) upTo3
+
+abbrev newOf : List ℕ → Model → Outcome Head Grid
+newOf es m = newEntry es m (lent upTo3)
+
+abbrev reading : List ℕ → Outcome Head Grid
+reading bytes = readRecordEntry 2 bytes (lent (nan ∷ nan ∷ nan ∷ nan ∷ []))
+
+abbrev brokenAt : ℕ → Outcome Head Grid
+brokenAt offset = record { answer = refused (brokenRecord offset); lent = lent (nan ∷ nan ∷ nan ∷ nan ∷ []) }
+
+pub record AddedAnswers : Type 0 where
+  -- `new`, and its refusals in their order: 1 on all axes before 2, then 3, then 4
+  pub new-is-fresh : newOf (2 ∷ 2 ∷ []) model ≡ record { answer = given (headOf 2 2 1); lent = fresh 2 2 }
+  pub too-small-before-too-many : newOf (5000 ∷ 1 ∷ []) model .answer ≡ refused (dimensionTooSmall 1 1)
+  pub too-many-cells : newOf (256 ∷ 256 ∷ 257 ∷ []) model .answer ≡ refused capacityOverflow
+  pub model-before-buffer : newOf (3 ∷ 3 ∷ []) (record { occupied = nan; free = minus 1 2; ceiling = plus 4 1 }) .answer ≡ refused badModel
+  pub buffer-too-short : newOf (3 ∷ 3 ∷ []) model ≡ record { answer = refused badBuffer; lent = lent upTo3 }
+  -- frame 0 and one above the highest, before a bad list; a byte of 2; numbers left over
+  pub frame-before-beams : updateScanEntry binary64 (headOf 2 2 0) [] (2 ∷ []) (fresh 2 2) .answer ≡ refused badFrame
+  pub frame-too-high : updateScanEntry binary64 (headOf 2 2 2147483648) [] [] (fresh 2 2) .answer ≡ refused badFrame
+  pub strange-byte : scanOf (halfF ∷ halfF ∷ halfF ∷ halfF ∷ []) (2 ∷ []) .answer ≡ refused badBeams
+  pub numbers-left-over : scanOf (halfF ∷ []) [] .answer ≡ refused badBeams
+  -- "Map 2 by 2: 82 bytes."
+  pub bytes-of-two-by-two : length stored ≡ 82
+  pub reads-what-was-written : reading stored ≡ record { answer = given (headOf 2 2 2); lent = lent upTo3 }
+  pub any-number-of-axes : anyRecordOf stored ≡ given (record { head = headOf 2 2 2; odds = upTo3 })
+  -- cut short within the last row; bytes after the end; odds above the ceiling; two axes asked of a record of three
+  pub cut-short : reading (take 78 stored) ≡ brokenAt 60
+  pub bytes-after-the-end : reading (stored ++ 0 ∷ []) ≡ brokenAt 82
+  pub odds-too-high : reading (recordBytes (headOf 2 2 2) (zeroF ∷ plus 5 1 ∷ plus 2 1 ∷ plus 3 1 ∷ [])) ≡ brokenAt 41
+  pub three-axes-for-two : reading (recordBytes (record { extents = 2 ∷ 2 ∷ 2 ∷ []; model = model; frame = 2 }) (upTo3 ++ upTo3)) ≡ brokenAt 0
+  -- writing: the bytes first, the rest of what was lent stays; odds before room
+  pub writes-the-record : writeRecordEntry (headOf 2 2 2) upTo3 (replicate 83 7) ≡ record { answer = given 82; lent = stored ++ 7 ∷ [] }
+  pub no-room : writeRecordEntry (headOf 2 2 2) upTo3 (replicate 81 7) ≡ record { answer = refused (noRoom 82); lent = replicate 81 7 }
+  pub row-before-room :
+      writeRecordEntry (headOf 2 2 2) (zeroF ∷ oneF ∷ plus 5 1 ∷ zeroF ∷ []) [] ≡ record { answer = refused (brokenRecord 60); lent = [] }
+
+pub addedAnswers : AddedAnswers
+unfolding opened
+addedAnswers =
+    record {
+      new-is-fresh = refl;
+      too-small-before-too-many = refl;
+      too-many-cells = refl;
+      model-before-buffer = refl;
+      buffer-too-short = refl;
+      frame-before-beams = refl;
+      frame-too-high = refl;
+      strange-byte = refl;
+      numbers-left-over = refl;
+      bytes-of-two-by-two = refl;
+      reads-what-was-written = refl;
+      any-number-of-axes = refl;
+      cut-short = refl;
+      bytes-after-the-end = refl;
+      odds-too-high = refl;
+      three-axes-for-two = refl;
+      writes-the-record = refl;
+      no-room = refl;
+      row-before-room = refl;
+    }

@@ -1,0 +1,10 @@
+-- Document 01, section by section. `Floats` is its opening; each other file has the name of its section.
+pub mod Floats
+pub mod RefusalNumbers
+pub mod TheGridAndItsBounds
+pub mod Coordinates
+pub mod TheLine
+pub mod MarksAndFrames
+pub mod OneBeam
+pub mod MapRecord
+pub mod FiguresToTestOn

@@ -1,0 +1,67 @@
+-- Document 01, "Refusal numbers": the table, a line for each number, and what an answer is. Which refusal an entry gives first is
+-- in `RefusalNumbers.Entries`. A refusal is its number in the table and the values that the table's last column gives. Definitions only.
+pub mod Entries
+use Prim.Native.Nat.{ℕ}
+use mathlib.Core.List.{List, [], _∷_}
+use lib.IntN.{ℤ, pos}
+
+pub record Refusal : Type 0 where
+  pub number : ℕ
+  pub values : List ℤ
+
+-- "1 DimensionTooSmall | an extent < 2 | first axis, extent"
+abbrev pub dimensionTooSmall : ℕ → ℕ → Refusal
+dimensionTooSmall axis extent = record { number = 1; values = pos axis ∷ pos extent ∷ [] }
+
+-- "2 CapacityOverflow | an extent > 4,096, or too many cells | -"
+abbrev pub capacityOverflow : Refusal
+capacityOverflow = record { number = 2; values = [] }
+
+-- "3 Model (added) | model outside its bounds | -"
+abbrev pub badModel : Refusal
+badModel = record { number = 3; values = [] }
+
+-- "4 Buffer (added) | odds or stamps not one per cell | -"
+abbrev pub badBuffer : Refusal
+badBuffer = record { number = 4; values = [] }
+
+-- "5 OutOfBounds | a cell or point off the grid | first axis, index, extent"
+abbrev pub outOfBounds : ℕ → ℤ → ℕ → Refusal
+outOfBounds axis index extent = record { number = 5; values = pos axis ∷ index ∷ pos extent ∷ [] }
+
+-- "6 NonFiniteCoordinate | `cell_containing` meets NaN or infinity | axis"
+abbrev pub nonFiniteCoordinate : ℕ → Refusal
+nonFiniteCoordinate axis = record { number = 6; values = pos axis ∷ [] }
+
+-- "7 Ray | see "One beam" | in a list: beam's place, from 0, and count so far"
+abbrev pub ray : Refusal
+ray = record { number = 7; values = [] }
+
+abbrev pub rayInList : ℕ → ℕ → Refusal
+rayInList place count = record { number = 7; values = pos place ∷ pos count ∷ [] }
+
+-- "8 Beams (added) | flat list: not 2N numbers (origin, then endpoint) and one byte per beam, or a byte not 0 or 1 (1 is Hit) | -"
+abbrev pub badBeams : Refusal
+badBeams = record { number = 8; values = [] }
+
+-- "9 Frame (added) | marking, integrating or writing a record with frame 0 or > 2,147,483,647 | -"
+abbrev pub badFrame : Refusal
+badFrame = record { number = 9; values = [] }
+
+-- "10 Record (added) | map record broken | offset of the field"
+abbrev pub brokenRecord : ℕ → Refusal
+brokenRecord offset = record { number = 10; values = pos offset ∷ [] }
+
+-- "11 Room (added) | output shorter than the record | bytes needed"
+abbrev pub noRoom : ℕ → Refusal
+noRoom needed = record { number = 11; values = pos needed ∷ [] }
+
+-- an answer: what was asked for, or the refusal
+pub data Answer (A : Type 0) : Type 0 where
+  given : A → Answer A
+  refused : Refusal → Answer A
+
+-- the first refusal stands; only what was given goes on
+abbrev pub andThen : {A B : Type 0} → Answer A → (A → Answer B) → Answer B
+andThen (given a) go = go a
+andThen (refused r) go = refused r
