@@ -1,0 +1,79 @@
+// What each entry answers. None holds an array. `specs/Answers.antt` gives each case's meaning by document 01.
+use crate::heads::Head2;
+use crate::heads::Head3;
+use crate::points::Cell2;
+use crate::points::Cell3;
+use crate::refusal::Refusal;
+use crate::samples::MapSample2;
+use crate::samples::MapSample3;
+
+// `new`, `reset`, `begin_scan`, and reading a record: the map's head.
+pub enum MapAnswer2 {
+    Head(Head2),
+    Refused(Refusal),
+}
+
+pub enum MapAnswer3 {
+    Head(Head3),
+    Refused(Refusal),
+}
+
+// A mark: whether it changed the cell.
+pub enum MarkAnswer {
+    Changed(bool),
+    Refused(Refusal),
+}
+
+// One beam or a list: how many marks changed a cell. Writing a record: how many bytes it has.
+pub enum CountAnswer {
+    Count(u64),
+    Refused(Refusal),
+}
+
+pub enum SetAnswer {
+    Done,
+    Refused(Refusal),
+}
+
+// Reading one cell: its odds, or nothing off the grid.
+pub enum CellRead {
+    Odds(f64),
+    Nothing,
+}
+
+pub enum OddsAnswer {
+    Read(CellRead),
+    Refused(Refusal),
+}
+
+// Sampling at a point: nothing off the stencils' domain.
+pub enum SampleRead2 {
+    Sample(MapSample2),
+    Nothing,
+}
+
+pub enum SampleRead3 {
+    Sample(MapSample3),
+    Nothing,
+}
+
+pub enum SampleAnswer2 {
+    Read(SampleRead2),
+    Refused(Refusal),
+}
+
+pub enum SampleAnswer3 {
+    Read(SampleRead3),
+    Refused(Refusal),
+}
+
+// The cell that contains a point.
+pub enum CellAnswer2 {
+    Cell(Cell2),
+    Refused(Refusal),
+}
+
+pub enum CellAnswer3 {
+    Cell(Cell3),
+    Refused(Refusal),
+}

@@ -1,0 +1,37 @@
+// Beams, and what clipping leaves of one.
+use crate::points::Point2;
+use crate::points::Point3;
+
+// Why a beam stopped where it did.
+pub enum RayTermination {
+    // The sensor received a return, so the final cell is evidence of cloud.
+    Hit,
+    // The beam reached its maximum range, so the final cell is evidence of clear air.
+    MaxRange,
+}
+
+// One range measurement: where the beam started, where it stopped, and why.
+pub struct ScanBeam2 {
+    pub origin: Point2,
+    pub endpoint: Point2,
+    pub termination: RayTermination,
+}
+
+pub struct ScanBeam3 {
+    pub origin: Point3,
+    pub endpoint: Point3,
+    pub termination: RayTermination,
+}
+
+// A segment clipped to the map, both ends clamped to cells of it, and whether its computed end lay inside.
+pub struct Clipped2 {
+    pub entry: Point2,
+    pub exit: Point2,
+    pub inside: bool,
+}
+
+pub struct Clipped3 {
+    pub entry: Point3,
+    pub exit: Point3,
+    pub inside: bool,
+}

@@ -1,0 +1,44 @@
+// The data of the grid: frames and stamps, points and cells, the model and the head, beams, samples, refusals and answers.
+// Numbers by value and nothing else; what is done with them stands in the crates above. The original's types.rs.
+mod answers;
+mod beams;
+mod frames;
+mod heads;
+mod points;
+mod refusal;
+mod samples;
+
+pub use answers::CellAnswer2;
+pub use answers::CellAnswer3;
+pub use answers::CellRead;
+pub use answers::CountAnswer;
+pub use answers::MapAnswer2;
+pub use answers::MapAnswer3;
+pub use answers::MarkAnswer;
+pub use answers::OddsAnswer;
+pub use answers::SampleAnswer2;
+pub use answers::SampleAnswer3;
+pub use answers::SampleRead2;
+pub use answers::SampleRead3;
+pub use answers::SetAnswer;
+pub use beams::Clipped2;
+pub use beams::Clipped3;
+pub use beams::RayTermination;
+pub use beams::ScanBeam2;
+pub use beams::ScanBeam3;
+pub use frames::Frame;
+pub use frames::Stamp;
+pub use heads::Head2;
+pub use heads::Head3;
+pub use heads::Model;
+pub use points::Cell2;
+pub use points::Cell3;
+pub use points::Extents2;
+pub use points::Extents3;
+pub use points::Point2;
+pub use points::Point3;
+pub use points::Vector2;
+pub use points::Vector3;
+pub use refusal::Refusal;
+pub use samples::MapSample2;
+pub use samples::MapSample3;
