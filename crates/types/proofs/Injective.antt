@@ -18,9 +18,7 @@ use Rattle.types.specs.declared.points.Cell2.{Cell2}
 use Rattle.types.specs.declared.points.Cell3.{Cell3}
 use Rattle.types.specs.declared.points.Extents2.{Extents2}
 use Rattle.types.specs.declared.points.Extents3.{Extents3}
-use Rattle.types.specs.declared.heads.Model.{Model}
-use Rattle.types.specs.declared.heads.Head2.{Head2}
-use Rattle.types.specs.declared.heads.Head3.{Head3}
+use Rattle.types.specs.declared.model.Model.{Model}
 use Rattle.types.specs.declared.samples.MapSample2.{MapSample2}
 use Rattle.types.specs.declared.samples.MapSample3.{MapSample3}
 use Rattle.types.specs.declared.beams.ScanBeam2.{ScanBeam2}
@@ -30,7 +28,7 @@ use Rattle.types.specs.declared.beams.Clipped3.{Clipped3}
 use Rattle.types.specs.declared.beams.RayTermination.{RayTermination}
 use Rattle.types.specs.declared.beams.RayTermination.the-variants.{Hit, MaxRange}
 use Rattle.types.specs.Points.{point2, point3, vector2, vector3, cell2, cell3, extents2, extents3}
-use Rattle.types.specs.Heads.{modelOf, head2, head3}
+use Rattle.types.specs.Models.{modelOf}
 use Rattle.types.specs.Samples.{sample2, sample3}
 use Rattle.types.specs.Beams.{isHit, beam2, beam3, clipped2, clipped3}
 
@@ -95,12 +93,6 @@ model-back m = record { occupied = m .occupied; free = m .free; ceiling = m .cei
 pub model-injective : Injective modelOf
 model-injective = of-back modelOf model-back (λ a. refl)
 
-abbrev pub head2-back : Grid.Head → Head2
-head2-back h = record { extents = extents2-back (h .extents); model = model-back (h .model); frame = record { 0 = h .frame } }
-
-pub head2-injective : Injective head2
-head2-injective = of-back head2 head2-back (λ a. refl)
-
 abbrev pub sample2-back : Coordinates.Sample → MapSample2
 sample2-back s = record { value = s .value; gradient = vector2-back (s .gradient) }
 
@@ -112,12 +104,6 @@ clipped2-back c = record { entry = point2-back (c .entry); exit = point2-back (c
 
 pub clipped2-injective : Injective clipped2
 clipped2-injective = of-back clipped2 clipped2-back (λ a. refl)
-
-abbrev pub head3-back : Grid.Head → Head3
-head3-back h = record { extents = extents3-back (h .extents); model = model-back (h .model); frame = record { 0 = h .frame } }
-
-pub head3-injective : Injective head3
-head3-injective = of-back head3 head3-back (λ a. refl)
 
 abbrev pub sample3-back : Coordinates.Sample → MapSample3
 sample3-back s = record { value = s .value; gradient = vector3-back (s .gradient) }

@@ -10,8 +10,6 @@ use Rattle.rules.specs.RefusalNumbers as Paper
 use Rattle.rules.specs.RefusalNumbers.{Answer, given, refused}
 use Rattle.types.specs.declared.refusal.Refusal as Refusal
 use Rattle.types.specs.declared.refusal.Refusal.the-variants as R
-use Rattle.types.specs.declared.answers.MapAnswer2 as MapAnswer2
-use Rattle.types.specs.declared.answers.MapAnswer3 as MapAnswer3
 use Rattle.types.specs.declared.answers.MarkAnswer as MarkAnswer
 use Rattle.types.specs.declared.answers.CountAnswer as CountAnswer
 use Rattle.types.specs.declared.answers.SetAnswer as SetAnswer
@@ -24,15 +22,15 @@ use Rattle.types.specs.declared.answers.SampleAnswer3 as SampleAnswer3
 use Rattle.types.specs.declared.answers.CellAnswer2 as CellAnswer2
 use Rattle.types.specs.declared.answers.CellAnswer3 as CellAnswer3
 use Rattle.types.specs.Refusals.{refusalOf}
-use Rattle.types.specs.Answers.{mapAnswer2, mapAnswer3, markAnswer, countAnswer, setAnswer, cellRead, oddsAnswer}
+use Rattle.types.specs.Answers.{markAnswer, countAnswer, setAnswer, cellRead, oddsAnswer}
 use Rattle.types.specs.Answers.{sampleRead2, sampleRead3, sampleAnswer2, sampleAnswer3, cellAnswer2, cellAnswer3}
-use Rattle.types.proofs.Injective.{Injective, of-back, cell2-back, cell3-back, head2-back, head3-back, sample2-back, sample3-back}
+use Rattle.types.proofs.Injective.{Injective, of-back, cell2-back, cell3-back, sample2-back, sample3-back}
 
 -- a refusal from its number and values; 7 has two cases, told apart by how many values it gives
-value : Paper.Refusal → ℕ → ℕ
+pub value : Paper.Refusal → ℕ → ℕ
 value r i = natAbs (getD (r .values) i (pos 0))
 
-abbrev refusal-back : Paper.Refusal → Refusal.Refusal
+abbrev pub refusal-back : Paper.Refusal → Refusal.Refusal
 unfolding value
 refusal-back r =
     let n : ℕ = r .number in
@@ -47,7 +45,7 @@ refusal-back r =
     (cond (eqb n 9) R.Frame
     (cond (eqb n 10) (R.Record (value r 0)) (R.Room (value r 0)))))))))))
 
-refusal-there : (r : Refusal.Refusal) → refusal-back (refusalOf r) ≡ r
+pub refusal-there : (r : Refusal.Refusal) → refusal-back (refusalOf r) ≡ r
 unfolding refusal-back value
 refusal-there (R.DimensionTooSmall axis extent) = refl
 refusal-there R.CapacityOverflow = refl
@@ -66,27 +64,13 @@ pub refusal-injective : Injective refusalOf
 refusal-injective = of-back refusalOf refusal-back refusal-there
 
 -- the way back from an answer, by the two cases that an answer's enum has; and from what may be nothing
-abbrev answer-back : {A T : Type 0} → (A → T) → (Refusal.Refusal → T) → Answer A → T
+abbrev pub answer-back : {A T : Type 0} → (A → T) → (Refusal.Refusal → T) → Answer A → T
 answer-back ok not-ok (given a) = ok a
 answer-back ok not-ok (refused r) = not-ok (refusal-back r)
 
 abbrev read-back : {A T : Type 0} → (A → T) → T → Option A → T
 read-back ok nothing (some a) = ok a
 read-back ok nothing none = nothing
-
-mapAnswer2-there : (a : MapAnswer2.MapAnswer2) → answer-back (λ h. MapAnswer2.the-variants.Head (head2-back h)) MapAnswer2.the-variants.Refused (mapAnswer2 a) ≡ a
-mapAnswer2-there (MapAnswer2.the-variants.Head h) = refl
-mapAnswer2-there (MapAnswer2.the-variants.Refused r) = ap MapAnswer2.the-variants.Refused (refusal-there r)
-
-pub mapAnswer2-injective : Injective mapAnswer2
-mapAnswer2-injective = of-back mapAnswer2 (answer-back (λ h. MapAnswer2.the-variants.Head (head2-back h)) MapAnswer2.the-variants.Refused) mapAnswer2-there
-
-mapAnswer3-there : (a : MapAnswer3.MapAnswer3) → answer-back (λ h. MapAnswer3.the-variants.Head (head3-back h)) MapAnswer3.the-variants.Refused (mapAnswer3 a) ≡ a
-mapAnswer3-there (MapAnswer3.the-variants.Head h) = refl
-mapAnswer3-there (MapAnswer3.the-variants.Refused r) = ap MapAnswer3.the-variants.Refused (refusal-there r)
-
-pub mapAnswer3-injective : Injective mapAnswer3
-mapAnswer3-injective = of-back mapAnswer3 (answer-back (λ h. MapAnswer3.the-variants.Head (head3-back h)) MapAnswer3.the-variants.Refused) mapAnswer3-there
 
 markAnswer-there : (a : MarkAnswer.MarkAnswer) → answer-back MarkAnswer.the-variants.Changed MarkAnswer.the-variants.Refused (markAnswer a) ≡ a
 markAnswer-there (MarkAnswer.the-variants.Changed b) = refl

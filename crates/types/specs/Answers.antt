@@ -6,10 +6,7 @@ use mathlib.Core.Option.{Option, some, none}
 use lib.IntN.{ℤ}
 use lib.Ieee.{Float}
 use Rattle.rules.specs.RefusalNumbers.{Answer, given, refused}
-use Rattle.rules.specs.TheGridAndItsBounds.{Head}
 use Rattle.rules.specs.Coordinates.{Sample}
-use Rattle.types.specs.declared.answers.MapAnswer2 as MapAnswer2
-use Rattle.types.specs.declared.answers.MapAnswer3 as MapAnswer3
 use Rattle.types.specs.declared.answers.MarkAnswer as MarkAnswer
 use Rattle.types.specs.declared.answers.CountAnswer as CountAnswer
 use Rattle.types.specs.declared.answers.SetAnswer as SetAnswer
@@ -22,17 +19,8 @@ use Rattle.types.specs.declared.answers.SampleAnswer3 as SampleAnswer3
 use Rattle.types.specs.declared.answers.CellAnswer2 as CellAnswer2
 use Rattle.types.specs.declared.answers.CellAnswer3 as CellAnswer3
 use Rattle.types.specs.Points.{cell2, cell3}
-use Rattle.types.specs.Heads.{head2, head3}
 use Rattle.types.specs.Samples.{sample2, sample3}
 use Rattle.types.specs.Refusals.{refusalOf}
-
-abbrev pub mapAnswer2 : MapAnswer2.MapAnswer2 → Answer Head
-mapAnswer2 (MapAnswer2.the-variants.Head h) = given (head2 h)
-mapAnswer2 (MapAnswer2.the-variants.Refused r) = refused (refusalOf r)
-
-abbrev pub mapAnswer3 : MapAnswer3.MapAnswer3 → Answer Head
-mapAnswer3 (MapAnswer3.the-variants.Head h) = given (head3 h)
-mapAnswer3 (MapAnswer3.the-variants.Refused r) = refused (refusalOf r)
 
 abbrev pub markAnswer : MarkAnswer.MarkAnswer → Answer Bool
 markAnswer (MarkAnswer.the-variants.Changed b) = given b

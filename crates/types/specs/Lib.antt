@@ -1,6 +1,6 @@
 -- What each type of the code stands for in the rules.
 pub mod Points
-pub mod Heads
+pub mod Models
 pub mod Beams
 pub mod Samples
 pub mod Refusals

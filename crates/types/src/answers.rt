@@ -1,22 +1,9 @@
-// What each entry answers. None holds an array. `specs/Answers.antt` gives each case's meaning by document 01.
-use crate::heads::Head2;
-use crate::heads::Head3;
+// What each entry answers; the answers that hold a map's head stand with it, in grid_map. None holds an array. `specs/Answers.antt` gives each case's meaning by document 01.
 use crate::points::Cell2;
 use crate::points::Cell3;
 use crate::refusal::Refusal;
 use crate::samples::MapSample2;
 use crate::samples::MapSample3;
-
-// `new`, `reset`, `begin_scan`, and reading a record: the map's head.
-pub enum MapAnswer2 {
-    Head(Head2),
-    Refused(Refusal),
-}
-
-pub enum MapAnswer3 {
-    Head(Head3),
-    Refused(Refusal),
-}
 
 // A mark: whether it changed the cell.
 pub enum MarkAnswer {

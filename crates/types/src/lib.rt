@@ -1,9 +1,9 @@
-// The data of the grid: frames and stamps, points and cells, the model and the head, beams, samples, refusals and answers.
-// Numbers by value and nothing else; what is done with them stands in the crates above. The original's types.rs.
+// The data of the grid: frames and stamps, points and cells, the model, beams, samples, refusals and answers. Numbers by value and nothing
+// else; what is done with them stands in the crates above, and the map's head with its own functions in grid_map. The original's types.rs.
 mod answers;
 mod beams;
 mod frames;
-mod heads;
+mod model;
 mod points;
 mod refusal;
 mod samples;
@@ -12,8 +12,6 @@ pub use answers::CellAnswer2;
 pub use answers::CellAnswer3;
 pub use answers::CellRead;
 pub use answers::CountAnswer;
-pub use answers::MapAnswer2;
-pub use answers::MapAnswer3;
 pub use answers::MarkAnswer;
 pub use answers::OddsAnswer;
 pub use answers::SampleAnswer2;
@@ -28,9 +26,7 @@ pub use beams::ScanBeam2;
 pub use beams::ScanBeam3;
 pub use frames::Frame;
 pub use frames::Stamp;
-pub use heads::Head2;
-pub use heads::Head3;
-pub use heads::Model;
+pub use model::Model;
 pub use points::Cell2;
 pub use points::Cell3;
 pub use points::Extents2;

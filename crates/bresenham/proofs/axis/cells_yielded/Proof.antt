@@ -1,0 +1,16 @@
+-- The call's count, at the code's one.
+use borrow.Author.Needs.{needs}
+use Rattle.rules.specs.TheLine.{cellsYielded}
+use Rattle.laws.specs.Literals.{one-is}
+use Rattle.bresenham.proofs.axis.cells_yielded.Statement.{statement}
+use Rattle.bresenham.proofs.axis.cells_yielded.Tie as tie
+
+count-of-requires : tie.Need-count-of-requires
+count-of-requires c κs = search needs
+
+returns : tie.Need-returns
+unfolding cellsYielded
+returns c = simp (c .count-of .ensures, one-is)
+
+pub cells-yielded-spec : {M : Type 1} → statement M
+cells-yielded-spec = tie.close (tie.spec count-of-requires returns)

@@ -1,0 +1,34 @@
+-- Axis by axis for 1, and then 2.
+use mathlib.Core.Path.{sym, _∙_}
+use borrow.Author.Tests.{lt-ltb, le-ltb}
+use borrow.Author.Needs.{needs}
+use Rattle.rules.specs.RefusalNumbers.Entries.{extentsRefusal, firstTooSmall}
+use Rattle.checks.proofs.extents_check3.Statement.{statement}
+use Rattle.checks.proofs.extents_check3.Tie as tie
+
+returns : tie.Need-returns
+unfolding extentsRefusal firstTooSmall
+returns c = simp (lt-ltb _ _ (c .if1 .taken))
+
+returns-2 : tie.Need-returns-2
+unfolding extentsRefusal firstTooSmall
+returns-2 c = simp (le-ltb _ _ (c .before .before .if1 .left), lt-ltb _ _ (c .if2 .taken))
+
+returns-3 : tie.Need-returns-3
+unfolding extentsRefusal firstTooSmall
+returns-3 c = simp (le-ltb _ _ (c .before .before .before .before .if1 .left), le-ltb _ _ (c .before .before .if2 .left), lt-ltb _ _ (c .if3 .taken))
+
+fits-capacity3-requires : tie.Need-fits-capacity3-requires
+fits-capacity3-requires c κs = search needs
+
+returns-4 : tie.Need-returns-4
+unfolding extentsRefusal firstTooSmall
+returns-4 c = simp (le-ltb _ _ (c .before .before .before .before .before .before .if1 .left), le-ltb _ _ (c .before .before .before .before .if2 .left), le-ltb _ _ (c .before .before .if3 .left), sym (c .before .fits-capacity3 .ensures) ∙ c .if4 .taken)
+
+returns-5 : tie.Need-returns-5
+unfolding extentsRefusal firstTooSmall
+returns-5 c = simp (le-ltb _ _ (c .before .before .before .before .before .before .if1 .left), le-ltb _ _ (c .before .before .before .before .if2 .left), le-ltb _ _ (c .before .before .if3 .left), sym (c .before .fits-capacity3 .ensures) ∙ c .if4 .left)
+
+pub extents-check3-spec : {M : Type 1} → statement M
+extents-check3-spec =
+    tie.close (tie.spec returns returns-2 returns-3 fits-capacity3-requires returns-4 returns-5)

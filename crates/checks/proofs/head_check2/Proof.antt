@@ -1,0 +1,52 @@
+-- The extents decide first; a map whose extents passed has its cells counted without wrapping.
+use Prim.Native.Nat.{_*_}
+use mathlib.Core.Path.{sym, ap, _∙_}
+use native.Mathlib.Nat.{mul-one, mul-le-mul}
+use mir.Facts.{fits-le, fits-lit}
+use borrow.Author.Needs.{needs}
+use Rattle.rules.specs.RefusalNumbers.Entries.{headRefusal}
+use Rattle.rules.specs.TheGridAndItsBounds.{cells, onePerCell}
+use Rattle.laws.specs.Checks.{InBounds, extents-passed}
+use Rattle.types.specs.Points.{extents2}
+use Rattle.checks.specs.Checking.{checkOf, usedRefusal}
+use Rattle.checks.proofs.head_check2.Statement.{statement}
+use Rattle.checks.proofs.head_check2.Tie as tie
+
+extents-check2-requires : tie.Need-extents-check2-requires
+extents-check2-requires c κs = search needs
+
+enum-known-r : tie.Need-enum-known-r
+enum-known-r c = search needs
+
+enum-told : tie.Need-enum-told
+enum-told c = search needs
+
+-- the extents have passed
+in-bounds : (c : tie.After-enum-told) → InBounds (extents2 (c .before .before .before .args .e))
+in-bounds c = extents-passed _ (sym (c .before .before .extents-check2 .ensures) ∙ ap checkOf (c .enum-told .given .1))
+
+mul-used-check : tie.Need-mul-used-check
+mul-used-check c = let p = in-bounds (c .before) in fits-le (mul-le-mul (p .0 .1) (p .0 .2 .1)) (fits-lit {n = 4096 * 4096} tt)
+
+used-check-requires : tie.Need-used-check-requires
+used-check-requires c κs = search needs
+
+returns : tie.Need-returns
+unfolding headRefusal
+returns c = simp (sym (c .before .before .before .extents-check2 .ensures) ∙ ap checkOf (c .before .r .given .1))
+
+returns-2 : tie.Need-returns-2
+unfolding headRefusal usedRefusal onePerCell cells
+returns-2 c = simp (sym (c .before .before .before .before .extents-check2 .ensures) ∙ ap checkOf (c .before .before .enum-told .given .1), c .used-check .ensures, mul-one)
+
+pub head-check2-spec : {M : Type 1} → statement M
+head-check2-spec =
+    tie.close
+    (tie.spec
+    extents-check2-requires
+    enum-known-r
+    enum-told
+    mul-used-check
+    used-check-requires
+    returns
+    returns-2)

@@ -1,0 +1,57 @@
+-- Each slab goes on from what the ones before left, and the first miss stands.
+use mathlib.Core.Path.{sym, ap, _∙_}
+use borrow.Author.Needs.{needs}
+use Rattle.rules.specs.OneBeam.{slabs}
+use Rattle.clip.specs.Clips.{passageOf}
+use Rattle.laws.specs.Literals.{zero-is, one-is}
+use Rattle.clip.proofs.Passages.{last-slab}
+use Rattle.clip.proofs.clip.slabs3.Statement.{statement}
+use Rattle.clip.proofs.clip.slabs3.Tie as tie
+
+slab-requires : tie.Need-slab-requires
+slab-requires c κs = search needs
+
+enum-told : tie.Need-enum-told
+enum-told c = search needs
+
+enum-known-s : tie.Need-enum-known-s
+enum-known-s c = search needs
+
+slab-requires-2 : tie.Need-slab-requires-2
+slab-requires-2 c κs = search needs
+
+enum-told-2 : tie.Need-enum-told-2
+enum-told-2 c = search needs
+
+enum-known-t : tie.Need-enum-known-t
+enum-known-t c = search needs
+
+slab-requires-3 : tie.Need-slab-requires-3
+slab-requires-3 c κs = search needs
+
+returns : tie.Need-returns
+unfolding slabs
+returns c = simp (sym (rw (zero-is, one-is) at (c .before .before .slab .ensures)) ∙ ap passageOf (c .enum-told .given .1))
+
+returns-2 : tie.Need-returns-2
+unfolding slabs
+returns-2 c = simp (sym (rw (zero-is, one-is) at (c .before .before .before .before .before .before .slab .ensures)) ∙ ap passageOf (c .before .before .before .before .s .given .1), sym (c .before .before .slab2 .ensures) ∙ ap passageOf (c .enum-told2 .given .1))
+
+returns-3 : tie.Need-returns-3
+unfolding slabs
+returns-3 c = simp (sym (rw (zero-is, one-is) at (c .before .before .before .before .before .before .before .before .slab .ensures)) ∙ ap passageOf (c .before .before .before .before .before .before .s .given .1), sym (c .before .before .before .before .slab2 .ensures) ∙ ap passageOf (c .before .before .t .given .1), last-slab, c .slab3 .ensures)
+
+pub slabs3-spec : {M : Type 1} → statement M
+slabs3-spec =
+    tie.close
+    (tie.spec
+    slab-requires
+    enum-told
+    enum-known-s
+    slab-requires-2
+    enum-told-2
+    enum-known-t
+    slab-requires-3
+    returns
+    returns-2
+    returns-3)

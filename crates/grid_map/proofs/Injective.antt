@@ -1,0 +1,36 @@
+-- A map's head, and the answers that hold one, are fixed by what they stand for. Each map has a way back. Assumes nothing.
+use mathlib.Core.Path.{_≡_, refl, ap}
+use Rattle.rules.specs.TheGridAndItsBounds.{Head}
+use Rattle.types.proofs.Injective.{Injective, of-back, extents2-back, extents3-back, model-back}
+use Rattle.types.proofs.InjectiveAnswers.{answer-back, refusal-there}
+use Rattle.grid_map.specs.declared.map.GridMap2.{GridMap2}
+use Rattle.grid_map.specs.declared.map.GridMap3.{GridMap3}
+use Rattle.grid_map.specs.declared.map.MapAnswer2 as MapAnswer2
+use Rattle.grid_map.specs.declared.map.MapAnswer3 as MapAnswer3
+use Rattle.grid_map.specs.Heads.{head2, head3, mapAnswer2, mapAnswer3}
+
+abbrev head2-back : Head → GridMap2
+head2-back h = record { extents = extents2-back (h .extents); model = model-back (h .model); frame = record { 0 = h .frame } }
+
+abbrev head3-back : Head → GridMap3
+head3-back h = record { extents = extents3-back (h .extents); model = model-back (h .model); frame = record { 0 = h .frame } }
+
+pub head2-injective : Injective head2
+head2-injective = of-back head2 head2-back (λ a. refl)
+
+pub head3-injective : Injective head3
+head3-injective = of-back head3 head3-back (λ a. refl)
+
+mapAnswer2-there : (a : MapAnswer2.MapAnswer2) → answer-back (λ h. MapAnswer2.the-variants.Map (head2-back h)) MapAnswer2.the-variants.Refused (mapAnswer2 a) ≡ a
+mapAnswer2-there (MapAnswer2.the-variants.Map m) = refl
+mapAnswer2-there (MapAnswer2.the-variants.Refused r) = ap MapAnswer2.the-variants.Refused (refusal-there r)
+
+pub mapAnswer2-injective : Injective mapAnswer2
+mapAnswer2-injective = of-back mapAnswer2 (answer-back (λ h. MapAnswer2.the-variants.Map (head2-back h)) MapAnswer2.the-variants.Refused) mapAnswer2-there
+
+mapAnswer3-there : (a : MapAnswer3.MapAnswer3) → answer-back (λ h. MapAnswer3.the-variants.Map (head3-back h)) MapAnswer3.the-variants.Refused (mapAnswer3 a) ≡ a
+mapAnswer3-there (MapAnswer3.the-variants.Map m) = refl
+mapAnswer3-there (MapAnswer3.the-variants.Refused r) = ap MapAnswer3.the-variants.Refused (refusal-there r)
+
+pub mapAnswer3-injective : Injective mapAnswer3
+mapAnswer3-injective = of-back mapAnswer3 (answer-back (λ h. MapAnswer3.the-variants.Map (head3-back h)) MapAnswer3.the-variants.Refused) mapAnswer3-there

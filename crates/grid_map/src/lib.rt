@@ -1,0 +1,7 @@
+// The map's head, and the entries that need no beam. The original's GridMap.
+mod map;
+
+pub use map::GridMap2;
+pub use map::GridMap3;
+pub use map::MapAnswer2;
+pub use map::MapAnswer3;

@@ -1,0 +1,150 @@
+-- Demand 3, what it says: in which order the beams of a sweep come, and how often each, does not matter. The premises are one record and the
+-- conclusions another; above them stand the few words they are said in, beside the rules'. `DemandThree.Proof` has the theorem. Definitions only.
+pub mod Dyadic
+pub mod Multiple
+pub mod TakeBack
+pub mod OneCell
+pub mod Orders
+pub mod Beams
+pub mod Proof
+pub mod AsTests
+pub mod Examples
+pub mod Needs
+use mathlib.Core.Path.{_≡_}
+use mathlib.Core.Logic.{_⊎_}
+use mathlib.Core.List.{List, _∷_, List·Memᴰ, List·Permᴰ}
+use mathlib.Core.Bool.{Bool, true, false, _&&_, _||_}
+use Prim.Native.Nat.{ℕ, _*_, _%_, _^_, _<_}
+use lib.IntN.{pos}
+use lib.Dec.{T, eqb}
+use lib.ListN.{length, getD}
+use lib.Ieee.{Float, nan, inf, fin, Format, up, down, binary32, binary64, sub, neg, lt, le, fits}
+use Rattle.rules.specs.RefusalNumbers.{given}
+use Rattle.rules.specs.TheGridAndItsBounds.{Model, Head, Grid, cells, extentsInBounds, bounded, floor, onePerCell}
+use Rattle.rules.specs.MarksAndFrames.{Steps, Mark, stepsAt, stampOf, frameOf, freed, occupiedStep, occupy, cellAt, openedFrame, openedStamps, openFrame}
+use Rattle.rules.specs.OneBeam.{Beam, Integrated, beamMarks, integrated}
+
+-- ---- a sweep
+-- the frame that `begin_scan` opens, and the grid as it leaves it
+abbrev pub frameOpened : Head → ℕ
+frameOpened h = openedFrame (h .frame)
+
+abbrev pub gridOpened : Head → Grid → Grid
+gridOpened h g = record { odds = g .odds; stamps = openedStamps (h .frame) (g .stamps) }
+
+-- the beams of the sweep, first to last, on that grid: the answer, and the grid after them
+abbrev pub sweep : Format → Head → Grid → List Beam → Integrated
+sweep f h g bs = integrated f (h .extents) (h .model) (frameOpened h) bs (gridOpened h g)
+
+-- ---- cells and beams
+-- a beam of the list makes this mark
+pub record Makes (f : Format) (es : List ℕ) (bs : List Beam) (x : Mark) : Type 0 where
+  pub beam : Beam
+  pub among : List·Memᴰ beam bs
+  pub marks : List Mark
+  pub its-marks : beamMarks f es beam ≡ given marks
+  pub one-of-them : List·Memᴰ x marks
+
+-- a beam of the list hit the cell at this place in the lists, or touched it at all
+abbrev pub Hit : Format → List ℕ → List Beam → ℕ → Type 0
+Hit f es bs i = Makes f es bs (record { place = i; occupied = true })
+
+abbrev pub Touched : Format → List ℕ → List Beam → ℕ → Type 0
+Touched f es bs i = (occupied : Bool) × Makes f es bs (record { place = i; occupied = occupied })
+
+-- two lists with the same beams, in any order and with any repeats
+pub record SameBeams (bs cs : List Beam) : Type 0 where
+  pub there : (b : Beam) → List·Memᴰ b bs → List·Memᴰ b cs
+  pub back : (b : Beam) → List·Memᴰ b cs → List·Memᴰ b bs
+
+-- ---- the premises
+unfoldable pub oddsWithin : Model → Float → Bool
+oddsWithin m o = le (floor m) o && le o (m .ceiling)
+
+pub record Sweep (f : Format) (h : Head) (g : Grid) (bs : List Beam) : Type 0 where
+  -- The head is valid: its extents, its model and its frame are within their bounds.
+  pub extents : T (extentsInBounds (h .extents))
+  pub model : T (bounded (h .model))
+  pub frame : T (openFrame (h .frame))
+  -- There is one odds number and one stamp for each cell.
+  pub odds-per-cell : T (onePerCell (h .extents) (length (g .odds)))
+  pub stamps-per-cell : T (onePerCell (h .extents) (length (g .stamps)))
+  -- The odds of every cell lie between the floor and the ceiling; a NaN does not.
+  pub within : (i : ℕ) → i < cells (h .extents) → T (oddsWithin (h .model) (getD (g .odds) i nan))
+  -- As the sweep opens, no stamp bears its frame.
+  pub unstamped : (i : ℕ) → i < cells (h .extents) → ¬ (frameOf (getD (gridOpened h g .stamps) i 0) ≡ frameOpened h)
+  -- No beam is refused.
+  pub taken : (b : Beam) → List·Memᴰ b bs → (xs : List Mark) × (beamMarks f (h .extents) b ≡ given xs)
+
+-- ---- the premises of the last sentence
+-- the unit is 2 ^ -20 in binary64 and 2 ^ -8 in binary32
+abbrev pub places : Format → ℕ
+places binary32 = 8
+places binary64 = 20
+
+-- a whole multiple of the unit: m * 2 ^ e is m * up e / down e
+unfoldable pub multiple : Format → Float → Bool
+multiple f nan = false
+multiple f (inf s) = false
+multiple f (fin s m e) = eqb (m * up e * 2 ^ places f % down e) 0
+
+-- a float of the format that is one
+unfoldable pub ofUnits : Format → Float → Bool
+ofUnits f x = fits f x && multiple f x
+
+-- the largest size of steps and bounds: 1,048,576 in binary64, 2,048 in binary32
+abbrev pub largestSize : Format → Float
+largestSize binary32 = fin false 1 (pos 11)
+largestSize binary64 = fin false 1 (pos 20)
+
+unfoldable pub modelOfUnits : Format → Model → Bool
+modelOfUnits f m =
+    (ofUnits f (m .occupied) && ofUnits f (m .free) && ofUnits f (m .ceiling))
+    && (le (m .occupied) (largestSize f) && le (neg (largestSize f)) (m .free) && le (m .ceiling) (largestSize f))
+
+-- on the floor, below which no odds lie, or above it by more than the clear step's size
+unfoldable pub clearOfFloor : Format → Steps → Float → Bool
+clearOfFloor f s o = le o (s .floor) || lt (sub f (s .floor) (s .free)) o
+
+pub record Multiples (f : Format) (h : Head) (g : Grid) : Type 0 where
+  -- The steps and the bounds are multiples of the unit, none above the largest size.
+  pub model : T (modelOfUnits f (h .model))
+  -- The odds of every cell are a multiple of the unit.
+  pub odds : (i : ℕ) → i < cells (h .extents) → T (ofUnits f (getD (g .odds) i nan))
+  -- Every cell is on the floor, or above it by more than the clear step's size.
+  pub clear-of-floor : (i : ℕ) → i < cells (h .extents) → T (clearOfFloor f (stepsAt (h .model) i) (getD (g .odds) i nan))
+
+-- ---- the conclusions
+-- what a cloud mark leaves of odds o on which nothing was done in this frame, and of those after one clear step: it takes the step back
+abbrev pub cloudAlone : Format → Steps → Float → Float
+cloudAlone f s o = occupy f s o (s .occupied)
+
+abbrev pub cloudAfterClear : Format → Steps → ℕ → Float → Float
+cloudAfterClear f s k o = occupy f s (freed f s o) (occupiedStep f s k (record { odds = freed f s o; stamp = stampOf k false }))
+
+pub record Settled (f : Format) (h : Head) (g : Grid) (bs : List Beam) : Type 0 where
+  -- The list is not refused.
+  pub given-a-count : (n : ℕ) × (sweep f h g bs .answer ≡ given n)
+  -- A cell that a beam hit ends stamped cloud.
+  pub hit-stamp : (i : ℕ) → i < cells (h .extents) → Hit f (h .extents) bs i → cellAt (sweep f h g bs .grid) i .stamp ≡ stampOf (frameOpened h) true
+  -- A cell that was touched, and that no beam hit, ends stamped clear.
+  pub clear-stamp : (i : ℕ) → i < cells (h .extents) → Touched f (h .extents) bs i → ¬ Hit f (h .extents) bs i
+      → cellAt (sweep f h g bs .grid) i .stamp ≡ stampOf (frameOpened h) false
+  -- Any other cell keeps its odds, and its stamp as the sweep opened.
+  pub untouched : (i : ℕ) → i < cells (h .extents) → ¬ Touched f (h .extents) bs i → cellAt (sweep f h g bs .grid) i ≡ cellAt (gridOpened h g) i
+  -- A clear cell took one clear step.
+  pub clear-odds : (i : ℕ) → i < cells (h .extents) → Touched f (h .extents) bs i → ¬ Hit f (h .extents) bs i
+      → cellAt (sweep f h g bs .grid) i .odds ≡ freed f (stepsAt (h .model) i) (getD (g .odds) i nan)
+  -- A cloud cell took the cloud step, with at most one clear step before it, taken back by the stated rule.
+  pub cloud-odds : (i : ℕ) → i < cells (h .extents) → Hit f (h .extents) bs i
+      → (cellAt (sweep f h g bs .grid) i .odds ≡ cloudAlone f (stepsAt (h .model) i) (getD (g .odds) i nan))
+      ⊎ (cellAt (sweep f h g bs .grid) i .odds ≡ cloudAfterClear f (stepsAt (h .model) i) (frameOpened h) (getD (g .odds) i nan))
+  -- The same beams in any order and with any repeats leave the same stamps; so do the beams in another order, and with one repeated.
+  pub stamps-same : (cs : List Beam) → SameBeams bs cs → sweep f h g bs .grid .stamps ≡ sweep f h g cs .grid .stamps
+  pub stamps-permuted : (cs : List Beam) → List·Permᴰ bs cs → sweep f h g bs .grid .stamps ≡ sweep f h g cs .grid .stamps
+  pub stamps-repeated : (b : Beam) → List·Memᴰ b bs → sweep f h g bs .grid .stamps ≡ sweep f h g (b ∷ bs) .grid .stamps
+  -- If all odds, steps and bounds are multiples of the unit, and each cell is on the floor or above it by more than the clear step's size,
+  -- the odds too are the same, as data: bit for bit, with the sign of zero.
+  pub odds-same : Multiples f h g → (cs : List Beam) → SameBeams bs cs → sweep f h g bs .grid .odds ≡ sweep f h g cs .grid .odds
+  pub odds-permuted : Multiples f h g → (cs : List Beam) → List·Permᴰ bs cs → sweep f h g bs .grid .odds ≡ sweep f h g cs .grid .odds
+  pub odds-repeated : Multiples f h g → (b : Beam) → List·Memᴰ b bs → sweep f h g bs .grid .odds ≡ sweep f h g (b ∷ bs) .grid .odds

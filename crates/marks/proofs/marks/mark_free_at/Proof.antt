@@ -1,0 +1,83 @@
+-- A stamp of this frame leaves the cell; any other is replaced and the free step taken.
+use mathlib.Core.Path.{_∙_}
+use mathlib.Core.Bool.{false}
+use borrow.Author.Tests.{eq-eqb, ne-eqb}
+use denote.Ref.{now}
+use borrow.Author.Needs.{needs}
+use Rattle.rules.specs.MarksAndFrames.{markCell, markFree}
+use Rattle.marks.specs.Marking.{stepsOf}
+use Rattle.marks.proofs.Marking.{left, moved}
+use Rattle.marks.proofs.marks.mark_free_at.Statement.{statement}
+use Rattle.marks.proofs.marks.mark_free_at.Tie as tie
+
+mul-stamp : tie.Need-mul-stamp
+mul-stamp c = search needs
+
+slice-read-stamp : tie.Need-slice-read-stamp
+slice-read-stamp c = search needs
+
+returns : tie.Need-returns
+unfolding markCell markFree
+returns c =
+    let a = c .before .before .before .before .before .args in
+    left false (stepsOf (a .s)) (a .frame .0) (a .at) (now (a .odds)) (now (a .stamps)) (simp (eq-eqb _ _ (c .if1 .taken)))
+
+mul-o : tie.Need-mul-o
+mul-o c = search needs
+
+slice-read-o : tie.Need-slice-read-o
+slice-read-o c = search needs
+
+of-requires : tie.Need-of-requires
+of-requires c κs = search needs
+
+number-requires : tie.Need-number-requires
+number-requires c κs = search needs
+
+mul-stamps : tie.Need-mul-stamps
+mul-stamps c = search needs
+
+slice-write-stamps : tie.Need-slice-write-stamps
+slice-write-stamps c = search needs
+
+freed-requires : tie.Need-freed-requires
+freed-requires c κs = search needs
+
+mul-odds : tie.Need-mul-odds
+mul-odds c = search needs
+
+slice-write-odds : tie.Need-slice-write-odds
+slice-write-odds c = search needs
+
+same-length : tie.Need-same-length
+same-length c = search needs
+
+same-length-2 : tie.Need-same-length-2
+same-length-2 c = search needs
+
+returns-2 : tie.Need-returns-2
+unfolding markCell markFree
+returns-2 c =
+    let a = c .before .before .before .before .before .before .before .before .before .args in
+    moved false (stepsOf (a .s)) (a .frame .0) (a .at) (now (a .odds)) (now (a .stamps)) (c .freed .result) (c .before .number .result)
+    (simp (ne-eqb _ _ (c .before .before .before .before .if1 .left), c .freed .ensures, c .before .number .ensures ∙ c .before .before .of .ensures))
+
+pub mark-free-at-spec : {M : Type 1} → statement M
+mark-free-at-spec =
+    tie.close
+    (tie.spec
+    mul-stamp
+    slice-read-stamp
+    returns
+    mul-o
+    slice-read-o
+    of-requires
+    number-requires
+    mul-stamps
+    slice-write-stamps
+    freed-requires
+    mul-odds
+    slice-write-odds
+    same-length
+    same-length-2
+    returns-2)

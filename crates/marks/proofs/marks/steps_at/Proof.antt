@@ -1,0 +1,13 @@
+-- The model's, and the floor its negative ceiling.
+use mathlib.Core.Path.{refl}
+use Rattle.rules.specs.TheGridAndItsBounds.{floor}
+use Rattle.rules.specs.MarksAndFrames.{stepsAt}
+use Rattle.marks.proofs.marks.steps_at.Statement.{statement}
+use Rattle.marks.proofs.marks.steps_at.Tie as tie
+
+returns : tie.Need-returns
+unfolding stepsAt floor
+returns c = refl
+
+pub steps-at-spec : {M : Type 1} → statement M
+steps-at-spec = tie.close (tie.spec returns)

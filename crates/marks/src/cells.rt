@@ -1,0 +1,34 @@
+// Reading and setting one cell of the lent odds, at a place that `index` found.
+ghost use mathlib.Core.Path.{_≡_};
+ghost use Prim.Native.Nat.{ℕ, _<_};
+ghost use lib.ListN.{length};
+ghost use Rattle.rules.specs.RefusalNumbers.{given};
+ghost use Rattle.rules.specs.RefusalNumbers.Entries.{readAt};
+ghost use Rattle.rules.specs.MarksAndFrames.{setOdds};
+ghost use Rattle.types.specs.Answers.{cellRead};
+ghost use Rattle.types.specs.Models.{modelOf};
+ghost use Rattle.places.specs.Places.{placeOf};
+use crate::marks::limited;
+use crate::marks::steps_at;
+use places::Place;
+use types::CellRead;
+use types::Model;
+
+// The odds at a place, or nothing off the grid. A place that was found is one of the list's, which has one number per cell (refusal 4).
+pub fn read_at(odds: &[f64], place: Place) -> CellRead
+    requires { ⌜ ((i : ℕ) → placeOf place ≡ given i → i < length (now odds)) ⌝ }
+    ensures { λ r. ⌜ cellRead r ≡ readAt (now (odds .entry)) (placeOf place) ⌝ }
+{
+    match place {
+        Place::At(i) => CellRead::Odds(odds[i]),
+        Place::Refused(_) => CellRead::Nothing,
+    }
+}
+
+// Overwrites a cell's odds, bypassing the steps and the stamp; NaN is stored as it is. The place is one of the list's.
+pub fn set_log_odds_at(odds: &mut [f64], at: usize, model: Model, x: f64)
+    requires { ⌜ at < length (now odds) ⌝ }
+    ensures { λ _. ⌜ now (odds .exit) ≡ setOdds (modelOf model) at x (now (odds .entry)) ⌝ }
+{
+    odds[at] = limited(steps_at(model, at), x);
+}

@@ -1,0 +1,101 @@
+-- The axes answer one after the other: the first refusal stands, and indices below their extents make a place.
+use Prim.Native.Nat.{ℕ, _*_, _≤_}
+use mathlib.Core.Path.{_≡_, sym, ap, _∙_}
+use native.Mathlib.Nat.{one-mul, mul-one, add-zero}
+use native.Mathlib.Omega.{arith}
+use lib.IntN.{ℤ}
+use mir.Facts.{fits-le, fits-lit}
+use mir.Syntax.{w64}
+use mir.ValLaws.{toZ-ofZ}
+use borrow.Author.Needs.{needs}
+use Rattle.rules.specs.RefusalNumbers.{Answer, given}
+use Rattle.rules.specs.TheGridAndItsBounds.{strides, stridesFrom}
+use Rattle.rules.specs.Coordinates.{along, orOff, onGridFrom, timesStrides, flatIndex}
+use Rattle.laws.specs.Places.{answer-lt, within-products}
+use Rattle.places.specs.Places.{alongOf}
+use Rattle.places.proofs.index.translate_to_index2.Statement.{statement}
+use Rattle.places.proofs.index.translate_to_index2.Tie as tie
+
+axis-at-requires : tie.Need-axis-at-requires
+axis-at-requires c κs = search needs
+
+enum-known-r : tie.Need-enum-known-r
+enum-known-r c = search needs
+
+enum-known-x : tie.Need-enum-known-x
+enum-known-x c = search needs
+
+axis-at-requires-2 : tie.Need-axis-at-requires-2
+axis-at-requires-2 c κs = search needs
+
+enum-known-r-2 : tie.Need-enum-known-r-2
+enum-known-r-2 c = search needs
+
+enum-known-y : tie.Need-enum-known-y
+enum-known-y c = search needs
+
+-- the answer of one axis, by the rules
+abbrev axis : ℕ → ℕ → ℤ → Answer ℕ
+axis k e i = orOff k e i (along e i)
+
+-- where each axis is asked, and what it answers there
+abbrev from-x : tie.After-axis-at → tie.Start
+from-x c = c .before .before
+
+asked-x : (c : tie.After-axis-at) → alongOf (c .axis-at .result) ≡ axis 0 (from-x c .args .extents .x) (from-x c .args .cell .x)
+asked-x c = rw (toZ-ofZ w64 (from-x c .args .cell .x) (record { sfits = c .before .struct-told .given .0 .1 })) at (c .axis-at .ensures)
+
+gave-x : (c : tie.After-x) → axis 0 (from-x (c .before .before) .args .extents .x) (from-x (c .before .before) .args .cell .x) ≡ given (c .x .given .0 .0)
+gave-x c = sym (asked-x (c .before .before)) ∙ ap alongOf (c .x .given .1)
+
+abbrev from-y : tie.After-axis-at2 → tie.Start
+from-y c = from-x (c .before .before .before .before .before)
+
+asked-y : (c : tie.After-axis-at2) → alongOf (c .axis-at2 .result) ≡ axis 1 (from-y c .args .extents .y) (from-y c .args .cell .y)
+asked-y c = rw (toZ-ofZ w64 (from-y c .args .cell .y) (record { sfits = c .before .struct-told2 .given .1 .0 .1 })) at (c .axis-at2 .ensures)
+
+gave-y : (c : tie.After-y) → axis 1 (from-y (c .before .before) .args .extents .y) (from-y (c .before .before) .args .cell .y) ≡ given (c .y .given .0 .0)
+gave-y c = sym (asked-y (c .before .before)) ∙ ap alongOf (c .y .given .1)
+
+returns : tie.Need-returns
+unfolding flatIndex onGridFrom
+returns c = simp (sym (asked-x (c .before .before .before)) ∙ ap alongOf (c .before .r .given .1))
+
+returns-2 : tie.Need-returns-2
+unfolding flatIndex onGridFrom
+returns-2 c = simp (gave-x (c .before .before .before .before .before .before), sym (asked-y (c .before .before .before)) ∙ ap alongOf (c .before .r2 .given .1))
+
+-- no product and no sum wraps
+product : (c : tie.After-y) → c .y .given .0 .0 * from-y (c .before .before) .args .extents .x ≤ 4096 * 4096
+product c = let s = from-y (c .before .before) in within-products (answer-lt _ _ _ _ (gave-y c)) (s .pre .0 .2 .1) (s .pre .0 .1)
+
+mul-t11 : tie.Need-mul-t11
+mul-t11 c = fits-le (product (c .before .before)) (fits-lit {n = 4096 * 4096} tt)
+
+add-t12 : tie.Need-add-t12
+add-t12 c =
+    let p = product (c .before .before) in
+    let q = answer-lt _ _ _ _ (gave-x (c .before .before .before .before .before .before .before)) in
+    let s = from-y (c .before .before .before .before) in
+    let h = s .pre .0 .1 in
+    omega arith
+
+returns-3 : tie.Need-returns-3
+unfolding flatIndex onGridFrom timesStrides strides stridesFrom
+returns-3 c = simp (gave-x (c .before .before .before .before .before .before .before), gave-y (c .before .before), one-mul, mul-one, add-zero)
+
+pub translate-to-index2-spec : {M : Type 1} → statement M
+translate-to-index2-spec =
+    tie.close
+    (tie.spec
+    axis-at-requires
+    enum-known-r
+    enum-known-x
+    axis-at-requires-2
+    enum-known-r-2
+    enum-known-y
+    mul-t11
+    add-t12
+    returns
+    returns-2
+    returns-3)

@@ -1,0 +1,150 @@
+-- The axes answer one after the other: the first refusal stands, and indices below their extents make a place.
+use Prim.Native.Nat.{ℕ, _*_, _≤_}
+use mathlib.Core.Path.{_≡_, sym, ap, _∙_}
+use native.Mathlib.Nat.{one-mul, mul-one, add-zero, mul-le-mul, add-assoc}
+use native.Mathlib.Omega.{arith}
+use lib.IntN.{ℤ}
+use mir.Facts.{fits-le, fits-lit}
+use mir.Syntax.{w64}
+use mir.ValLaws.{toZ-ofZ}
+use borrow.Author.Needs.{needs}
+use Rattle.rules.specs.RefusalNumbers.{Answer, given}
+use Rattle.rules.specs.TheGridAndItsBounds.{strides, stridesFrom}
+use Rattle.rules.specs.Coordinates.{along, orOff, onGridFrom, timesStrides, flatIndex}
+use Rattle.laws.specs.Places.{answer-lt, within-products}
+use Rattle.places.specs.Places.{alongOf}
+use Rattle.places.proofs.index.translate_to_index3.Statement.{statement}
+use Rattle.places.proofs.index.translate_to_index3.Tie as tie
+
+axis-at-requires : tie.Need-axis-at-requires
+axis-at-requires c κs = search needs
+
+enum-known-r : tie.Need-enum-known-r
+enum-known-r c = search needs
+
+enum-known-x : tie.Need-enum-known-x
+enum-known-x c = search needs
+
+axis-at-requires-2 : tie.Need-axis-at-requires-2
+axis-at-requires-2 c κs = search needs
+
+enum-known-r-2 : tie.Need-enum-known-r-2
+enum-known-r-2 c = search needs
+
+enum-known-y : tie.Need-enum-known-y
+enum-known-y c = search needs
+
+axis-at-requires-3 : tie.Need-axis-at-requires-3
+axis-at-requires-3 c κs = search needs
+
+enum-known-r-3 : tie.Need-enum-known-r-3
+enum-known-r-3 c = search needs
+
+enum-known-z : tie.Need-enum-known-z
+enum-known-z c = search needs
+
+-- the answer of one axis, by the rules
+abbrev axis : ℕ → ℕ → ℤ → Answer ℕ
+axis k e i = orOff k e i (along e i)
+
+-- where each axis is asked, and what it answers there
+abbrev from-x : tie.After-axis-at → tie.Start
+from-x c = c .before .before
+
+asked-x : (c : tie.After-axis-at) → alongOf (c .axis-at .result) ≡ axis 0 (from-x c .args .extents .x) (from-x c .args .cell .x)
+asked-x c = rw (toZ-ofZ w64 (from-x c .args .cell .x) (record { sfits = c .before .struct-told .given .0 .1 })) at (c .axis-at .ensures)
+
+gave-x : (c : tie.After-x) → axis 0 (from-x (c .before .before) .args .extents .x) (from-x (c .before .before) .args .cell .x) ≡ given (c .x .given .0 .0)
+gave-x c = sym (asked-x (c .before .before)) ∙ ap alongOf (c .x .given .1)
+
+abbrev from-y : tie.After-axis-at2 → tie.Start
+from-y c = from-x (c .before .before .before .before .before)
+
+asked-y : (c : tie.After-axis-at2) → alongOf (c .axis-at2 .result) ≡ axis 1 (from-y c .args .extents .y) (from-y c .args .cell .y)
+asked-y c = rw (toZ-ofZ w64 (from-y c .args .cell .y) (record { sfits = c .before .struct-told2 .given .1 .0 .1 })) at (c .axis-at2 .ensures)
+
+gave-y : (c : tie.After-y) → axis 1 (from-y (c .before .before) .args .extents .y) (from-y (c .before .before) .args .cell .y) ≡ given (c .y .given .0 .0)
+gave-y c = sym (asked-y (c .before .before)) ∙ ap alongOf (c .y .given .1)
+
+abbrev from-z : tie.After-axis-at3 → tie.Start
+from-z c = from-y (c .before .before .before .before .before)
+
+asked-z : (c : tie.After-axis-at3) → alongOf (c .axis-at3 .result) ≡ axis 2 (from-z c .args .extents .z) (from-z c .args .cell .z)
+asked-z c = rw (toZ-ofZ w64 (from-z c .args .cell .z) (record { sfits = c .before .struct-told3 .given .1 .1 .0 .1 })) at (c .axis-at3 .ensures)
+
+gave-z : (c : tie.After-z) → axis 2 (from-z (c .before .before) .args .extents .z) (from-z (c .before .before) .args .cell .z) ≡ given (c .z .given .0 .0)
+gave-z c = sym (asked-z (c .before .before)) ∙ ap alongOf (c .z .given .1)
+
+returns : tie.Need-returns
+unfolding flatIndex onGridFrom
+returns c = simp (sym (asked-x (c .before .before .before)) ∙ ap alongOf (c .before .r .given .1))
+
+returns-2 : tie.Need-returns-2
+unfolding flatIndex onGridFrom
+returns-2 c = simp (gave-x (c .before .before .before .before .before .before), sym (asked-y (c .before .before .before)) ∙ ap alongOf (c .before .r2 .given .1))
+
+returns-3 : tie.Need-returns-3
+unfolding flatIndex onGridFrom
+returns-3 c = simp (gave-x (c .before .before .before .before .before .before .before .before .before .before .before), gave-y (c .before .before .before .before .before .before), sym (asked-z (c .before .before .before)) ∙ ap alongOf (c .before .r3 .given .1))
+
+-- no product and no sum wraps
+product-y : (c : tie.After-y) → c .y .given .0 .0 * from-y (c .before .before) .args .extents .x ≤ 4096 * 4096
+product-y c = let s = from-y (c .before .before) in within-products (answer-lt _ _ _ _ (gave-y c)) (s .pre .0 .2 .1) (s .pre .0 .1)
+
+stride : (s : tie.Start) → s .args .extents .x * s .args .extents .y ≤ 4096 * 4096
+stride s = mul-le-mul (s .pre .0 .1) (s .pre .0 .2 .1)
+
+product-z : (c : tie.After-z)
+    → c .z .given .0 .0 * (from-z (c .before .before) .args .extents .x * from-z (c .before .before) .args .extents .y) ≤ 4096 * (4096 * 4096)
+product-z c = let s = from-z (c .before .before) in within-products (answer-lt _ _ _ _ (gave-z c)) (s .pre .0 .2 .2 .1) (stride s)
+
+mul-t15 : tie.Need-mul-t15
+mul-t15 c = fits-le (product-y (c .before .before .before .before .before .before .before)) (fits-lit {n = 4096 * 4096} tt)
+
+add-t16 : tie.Need-add-t16
+add-t16 c =
+    let p = product-y (c .before .before .before .before .before .before .before) in
+    let q = answer-lt _ _ _ _ (gave-x (c .before .before .before .before .before .before .before .before .before .before .before .before)) in
+    let h = from-z (c .before .before .before .before) .pre .0 .1 in
+    omega arith
+
+mul-t17 : tie.Need-mul-t17
+mul-t17 c = fits-le (stride (from-z (c .before .before .before .before .before))) (fits-lit {n = 4096 * 4096} tt)
+
+mul-t18 : tie.Need-mul-t18
+mul-t18 c = fits-le (product-z (c .before .before .before)) (fits-lit {n = 4096 * (4096 * 4096)} tt)
+
+add-t19 : tie.Need-add-t19
+add-t19 c =
+    let p = product-y (c .before .before .before .before .before .before .before .before) in
+    let r = product-z (c .before .before .before) in
+    let q = answer-lt _ _ _ _ (gave-x (c .before .before .before .before .before .before .before .before .before .before .before .before .before)) in
+    let h = from-z (c .before .before .before .before .before) .pre .0 .1 in
+    omega arith
+
+returns-4 : tie.Need-returns-4
+unfolding flatIndex onGridFrom timesStrides strides stridesFrom
+returns-4 c = simp (gave-x (c .before .before .before .before .before .before .before .before .before .before .before .before .before), gave-y (c .before .before .before .before .before .before .before .before), gave-z (c .before .before .before), one-mul, mul-one, add-zero, add-assoc)
+
+pub translate-to-index3-spec : {M : Type 1} → statement M
+translate-to-index3-spec =
+    tie.close
+    (tie.spec
+    axis-at-requires
+    enum-known-r
+    enum-known-x
+    axis-at-requires-2
+    enum-known-r-2
+    enum-known-y
+    axis-at-requires-3
+    enum-known-r-3
+    enum-known-z
+    mul-t15
+    add-t16
+    mul-t17
+    mul-t18
+    add-t19
+    returns
+    returns-2
+    returns-3
+    returns-4)

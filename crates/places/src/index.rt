@@ -1,0 +1,78 @@
+// Where a cell stands in the lent lists. Each axis is tested alone before it counts: testing only the sum is unsound, since an overshoot
+// on one axis lands on a valid cell of the next row.
+ghost use mathlib.Core.Path.{_≡_};
+ghost use Rattle.rules.specs.Coordinates.{along, orOff, flatIndex};
+ghost use Rattle.types.specs.Points.{cell2, cell3, extents2, extents3};
+ghost use Rattle.laws.specs.Checks.{InBounds};
+ghost use Rattle.places.specs.Places.{alongOf, placeOf};
+use types::Cell2;
+use types::Cell3;
+use types::Extents2;
+use types::Extents3;
+use types::Refusal;
+
+// One axis alone: its index as a number below the extent, or the refusal that names it.
+pub enum Along {
+    In(u64),
+    Refused(Refusal),
+}
+
+// A place in the lent lists, or the refusal that names the first axis that is off.
+pub enum Place {
+    At(usize),
+    Refused(Refusal),
+}
+
+fn axis_at(axis: u64, index: i64, extent: u64) -> Along
+    ensures { λ r. ⌜ alongOf r ≡ orOff axis extent index (along extent index) ⌝ }
+{
+    if index < 0 {
+        return Along::Refused(Refusal::OutOfBounds {
+            axis,
+            index,
+            extent,
+        });
+    }
+    let n = index as u64;
+    if n < extent {
+        Along::In(n)
+    } else {
+        Along::Refused(Refusal::OutOfBounds {
+            axis,
+            index,
+            extent,
+        })
+    }
+}
+
+// Extents in bounds, so that no product wraps: the entries refuse others with 1 and 2.
+pub fn translate_to_index2(extents: Extents2, cell: Cell2) -> Place
+    requires { ⌜ InBounds (extents2 extents) ⌝ }
+    ensures { λ r. ⌜ placeOf r ≡ flatIndex (extents2 extents) (cell2 cell) ⌝ }
+{
+    match axis_at(0, cell.x, extents.x) {
+        Along::Refused(r) => Place::Refused(r),
+        Along::In(x) => match axis_at(1, cell.y, extents.y) {
+            Along::Refused(r) => Place::Refused(r),
+            Along::In(y) => Place::At((x + y * extents.x) as usize),
+        },
+    }
+}
+
+pub fn translate_to_index3(extents: Extents3, cell: Cell3) -> Place
+    requires { ⌜ InBounds (extents3 extents) ⌝ }
+    ensures { λ r. ⌜ placeOf r ≡ flatIndex (extents3 extents) (cell3 cell) ⌝ }
+{
+    match axis_at(0, cell.x, extents.x) {
+        Along::Refused(r) => Place::Refused(r),
+        Along::In(x) => match axis_at(1, cell.y, extents.y) {
+            Along::Refused(r) => Place::Refused(r),
+            Along::In(y) => match axis_at(2, cell.z, extents.z) {
+                Along::Refused(r) => Place::Refused(r),
+                Along::In(z) => Place::At(
+                    (x + y * extents.x + z * (extents.x * extents.y)) as usize,
+                ),
+            },
+        },
+    }
+}

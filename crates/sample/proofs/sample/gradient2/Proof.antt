@@ -1,0 +1,32 @@
+-- The rule of the gradient, computed over four corners, is along each axis that of the value over the differences.
+use Rattle.rules.specs.Coordinates.{corners, weighed, weighedWithout, valueFrom, slopeFrom, gradientFrom}
+use Rattle.sample.specs.Sampling.{gradientOver}
+use borrow.Author.Needs.{needs}
+use Rattle.sample.proofs.sample.gradient2.Statement.{statement}
+use Rattle.sample.proofs.sample.gradient2.Tie as tie
+
+along-edges-requires : tie.Need-along-edges-requires
+along-edges-requires c κs = search needs
+
+value1-requires : tie.Need-value1-requires
+value1-requires c κs = search needs
+
+between-edges-requires : tie.Need-between-edges-requires
+between-edges-requires c κs = search needs
+
+value1-requires-2 : tie.Need-value1-requires-2
+value1-requires-2 c κs = search needs
+
+returns : tie.Need-returns
+unfolding gradientOver valueFrom slopeFrom gradientFrom weighed weighedWithout corners
+returns c = rw (c .value12 .ensures, c .before .between-edges .ensures, c .before .before .value1 .ensures, c .before .before .before .along-edges .ensures)
+
+pub gradient2-spec : {M : Type 1} → statement M
+gradient2-spec =
+    tie.close
+    (tie.spec
+    along-edges-requires
+    value1-requires
+    between-edges-requires
+    value1-requires-2
+    returns)

@@ -1,0 +1,49 @@
+-- The rule of the gradient, computed over eight corners, is along each axis that of the value over the differences.
+use Rattle.rules.specs.Coordinates.{corners, weighed, weighedWithout, valueFrom, slopeFrom, gradientFrom}
+use Rattle.sample.specs.Sampling.{gradientOver}
+use borrow.Author.Needs.{needs}
+use Rattle.sample.proofs.sample.gradient3.Statement.{statement}
+use Rattle.sample.proofs.sample.gradient3.Tie as tie
+
+along-squares-requires : tie.Need-along-squares-requires
+along-squares-requires c κs = search needs
+
+value2-requires : tie.Need-value2-requires
+value2-requires c κs = search needs
+
+between-pairs-requires : tie.Need-between-pairs-requires
+between-pairs-requires c κs = search needs
+
+value2-requires-2 : tie.Need-value2-requires-2
+value2-requires-2 c κs = search needs
+
+between-pairs-requires-2 : tie.Need-between-pairs-requires-2
+between-pairs-requires-2 c κs = search needs
+
+value2-requires-3 : tie.Need-value2-requires-3
+value2-requires-3 c κs = search needs
+
+returns : tie.Need-returns
+unfolding gradientOver valueFrom slopeFrom gradientFrom weighed weighedWithout corners
+returns c =
+    let b = c .before .before .before in
+    rw (
+      c .value23 .ensures,
+      c .before .between-pairs2 .ensures,
+      c .before .before .value22 .ensures,
+      b .between-pairs .ensures,
+      b .before .value2 .ensures,
+      b .before .before .along-squares .ensures,
+    )
+
+pub gradient3-spec : {M : Type 1} → statement M
+gradient3-spec =
+    tie.close
+    (tie.spec
+    along-squares-requires
+    value2-requires
+    between-pairs-requires
+    value2-requires-2
+    between-pairs-requires-2
+    value2-requires-3
+    returns)

@@ -1,0 +1,19 @@
+-- The rule of the value, computed over two corners.
+use lib.Ieee.{ofBits}
+use Rattle.rules.specs.Coordinates.{corners, weighed, valueFrom}
+use borrow.Author.Needs.{needs}
+use Rattle.sample.proofs.sample.value1.Statement.{statement}
+use Rattle.sample.proofs.sample.value1.Tie as tie
+
+edge-weights-requires : tie.Need-edge-weights-requires
+edge-weights-requires c κs = search needs
+
+edge-sum-requires : tie.Need-edge-sum-requires
+edge-sum-requires c κs = search needs
+
+returns : tie.Need-returns
+unfolding ofBits valueFrom weighed corners
+returns c = rw (c .edge-sum .ensures, c .before .edge-weights .ensures)
+
+pub value1-spec : {M : Type 1} → statement M
+value1-spec = tie.close (tie.spec edge-weights-requires edge-sum-requires returns)

@@ -1,0 +1,43 @@
+-- The rule of the value, computed over eight corners: four on the low side of the third axis, then four on its high side.
+use lib.Ieee.{ofBits}
+use Rattle.rules.specs.Coordinates.{corners, weighed, valueFrom}
+use borrow.Author.Needs.{needs}
+use Rattle.sample.proofs.sample.value3.Statement.{statement}
+use Rattle.sample.proofs.sample.value3.Tie as tie
+
+square-weights-requires : tie.Need-square-weights-requires
+square-weights-requires c κs = search needs
+
+square-times-requires : tie.Need-square-times-requires
+square-times-requires c κs = search needs
+
+square-sum-requires : tie.Need-square-sum-requires
+square-sum-requires c κs = search needs
+
+square-times-requires-2 : tie.Need-square-times-requires-2
+square-times-requires-2 c κs = search needs
+
+square-sum-requires-2 : tie.Need-square-sum-requires-2
+square-sum-requires-2 c κs = search needs
+
+returns : tie.Need-returns
+unfolding ofBits valueFrom weighed corners
+returns c =
+    rw (
+      c .square-sum2 .ensures,
+      c .before .square-times2 .ensures,
+      c .before .before .square-sum .ensures,
+      c .before .before .before .square-times .ensures,
+      c .before .before .before .before .before .before .square-weights .ensures,
+    )
+
+pub value3-spec : {M : Type 1} → statement M
+value3-spec =
+    tie.close
+    (tie.spec
+    square-weights-requires
+    square-times-requires
+    square-sum-requires
+    square-times-requires-2
+    square-sum-requires-2
+    returns)

@@ -1,0 +1,6 @@
+// The inverse sensor model, resolved: what one vote of each kind adds to a cell's odds, and where a cell saturates.
+pub struct Model {
+    pub occupied: f64,
+    pub free: f64,
+    pub ceiling: f64,
+}
