@@ -93,7 +93,7 @@ not-done f l n r p = go (eqb (l .remaining) 1) refl
       rw (ne-eqb (l .remaining) 0 (λ z. omega arith), lt-leb _ _ p, e) refl,
     )
 
-no-cells : (f : Format) (l : Line) → l .remaining ≡ 0 → lineCells f l ≡ []
+pub no-cells : (f : Format) (l : Line) → l .remaining ≡ 0 → lineCells f l ≡ []
 unfolding lineCells cellsWithin
 no-cells f l r = ap (λ (n : ℕ). cellsWithin f n l) r
 

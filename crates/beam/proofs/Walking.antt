@@ -1,0 +1,76 @@
+-- A walk along a line: what holds between its steps, over lines of any number of axes. Whatever the rest of the line does to the lists as
+-- they stand, the whole line does to the lists as they were. Assumes nothing.
+use Prim.Native.Nat.{ℕ, _+_, _≤_}
+use mathlib.Core.Bool.{Bool, false, cond}
+use mathlib.Core.List.{List, []}
+use mathlib.Core.Path.{_≡_, refl, sym, ap, _∙_}
+use native.Mathlib.Nat.{zero-add, add-assoc, add-zero}
+use native.Mathlib.Omega.{arith}
+use lib.Dec.{eqb}
+use lib.Ieee.{Float, binary64}
+use lib.IntN.{ℤ}
+use lib.ListN.{length}
+use Rattle.rules.specs.TheGridAndItsBounds.{Head, Grid}
+use Rattle.rules.specs.Coordinates.{flatIndex}
+use Rattle.rules.specs.TheLine.{Line, yields, none, stepOf, lineCells}
+use Rattle.rules.specs.MarksAndFrames.{Mark}
+use Rattle.rules.specs.OneBeam.{markOf, marksAlong}
+use Rattle.laws.specs.Checks.{Ready}
+use Rattle.laws.specs.LineSteps.{marks-step, done, no-cells}
+use Rattle.laws.specs.MarkLists.{marked-odds, marked-stamps}
+use Rattle.laws.specs.Room.{room}
+use Rattle.marks.specs.Marking.{gridOf}
+use Rattle.beam.specs.Applying.{Applied}
+use Rattle.beam.proofs.Applying.{none-applied, both-applied}
+
+-- the head still fits the lists after marks
+pub still-ready : (h : Head) (xs : List Mark) (odds odds′ : List Float) (stamps stamps′ : List ℕ) (n : ℕ) → Ready h (length odds) (length stamps)
+    → Applied xs (h .model) (h .frame) odds stamps n odds′ stamps′ → Ready h (length odds′) (length stamps′)
+still-ready h xs odds odds′ stamps stamps′ n r a =
+    record {
+      extents = r .extents;
+      odds-count = ap (λ (g : Grid). length (g .odds)) (a .grid) ∙ marked-odds binary64 (h .model) (h .frame) xs (gridOf odds stamps) ∙ r .odds-count;
+      stamps-count = ap (λ (g : Grid). length (g .stamps)) (a .grid) ∙ marked-stamps binary64 (h .model) (h .frame) xs (gridOf odds stamps) ∙ r .stamps-count;
+      frame = r .frame;
+    }
+
+pub record Walked (h : Head) (last : Bool) (line : Line) (odds₀ : List Float) (stamps₀ : List ℕ) (rest : Line) (odds : List Float) (stamps : List ℕ) (count remaining : ℕ) : Type 0 where
+  pub left : remaining ≡ rest .remaining
+  pub ready : Ready h (length odds) (length stamps)
+  pub used : count + room (h .frame) stamps ≤ room (h .frame) stamps₀
+  pub whole : (n : ℕ) (odds′ : List Float) (stamps′ : List ℕ)
+      → Applied (marksAlong (h .extents) last (lineCells binary64 rest)) (h .model) (h .frame) odds stamps n odds′ stamps′
+      → Applied (marksAlong (h .extents) last (lineCells binary64 line)) (h .model) (h .frame) odds₀ stamps₀ (count + n) odds′ stamps′
+
+module _ (h : Head) (last : Bool) (line : Line) (odds₀ : List Float) (stamps₀ : List ℕ) where
+  pub not-started : Ready h (length odds₀) (length stamps₀) → Walked h last line odds₀ stamps₀ line odds₀ stamps₀ 0 (line .remaining)
+  not-started r = record { left = refl; ready = r; used = omega arith; whole = λ n o s a. rw zero-add a }
+
+  module _ (rest : Line) (odds : List Float) (stamps : List ℕ) (count remaining : ℕ) (w : Walked h last line odds₀ stamps₀ rest odds stamps count remaining) where
+    pub one-step : (after : Line) (c : List ℤ) (occupied : Bool) (n : ℕ) (odds′ : List Float) (stamps′ : List ℕ) → stepOf binary64 rest ≡ yields c after
+        → occupied ≡ cond (eqb (after .remaining) 0) last false
+        → Applied (markOf occupied (flatIndex (h .extents) c)) (h .model) (h .frame) odds stamps n odds′ stamps′
+        → Walked h last line odds₀ stamps₀ after odds′ stamps′ (count + n) (after .remaining)
+    one-step after c occupied n odds′ stamps′ e o a =
+        let u = w .used in
+        let v = a .used in
+        record {
+          left = refl;
+          ready = still-ready h _ odds odds′ stamps stamps′ n (w .ready) a;
+          used = omega arith;
+          whole = λ k odds″ stamps″ b.
+              rw add-assoc
+              (w .whole (n + k) odds″ stamps″
+              (rw (marks-step binary64 (h .extents) last rest after c e, ← o)
+              (both-applied (h .model) (h .frame) _ _ odds odds′ odds″ stamps stamps′ stamps″ n k a b)));
+        }
+
+    ended : lineCells binary64 rest ≡ [] → Applied (marksAlong (h .extents) last (lineCells binary64 line)) (h .model) (h .frame) odds₀ stamps₀ count odds stamps
+    unfolding marksAlong
+    ended e = rw add-zero at (w .whole 0 odds stamps (rw e (none-applied (h .model) (h .frame) odds stamps)))
+
+    pub at-the-end : remaining ≡ 0 → Applied (marksAlong (h .extents) last (lineCells binary64 line)) (h .model) (h .frame) odds₀ stamps₀ count odds stamps
+    at-the-end z = ended (no-cells binary64 rest (sym (w .left) ∙ z))
+
+    pub stopped : stepOf binary64 rest ≡ none → Applied (marksAlong (h .extents) last (lineCells binary64 line)) (h .model) (h .frame) odds₀ stamps₀ count odds stamps
+    stopped e = ended (done binary64 rest e)

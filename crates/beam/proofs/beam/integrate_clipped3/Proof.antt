@@ -1,0 +1,67 @@
+-- By what clipping left, and then by what the plotter answers.
+use mathlib.Core.Path.{sym, ap, _∙_}
+use denote.Ref.{now}
+use borrow.Author.Needs.{needs}
+use Rattle.types.specs.Models.{modelOf}
+use Rattle.rules.specs.OneBeam.{marksBetween}
+use Rattle.bresenham.specs.Lines.{plotted3}
+use Rattle.clip.specs.Clips.{clip3}
+use Rattle.beam.proofs.Beaming.{missed, not-integrated, integrated-along}
+use Rattle.beam.proofs.beam.integrate_clipped3.Statement.{statement}
+use Rattle.beam.proofs.beam.integrate_clipped3.Tie as tie
+
+enum-told : tie.Need-enum-told
+enum-told c = search needs
+
+enum-known-clip : tie.Need-enum-known-clip
+enum-known-clip c = search needs
+
+plotter-requires : tie.Need-plotter-requires
+plotter-requires c κs = search needs
+
+enum-known-r : tie.Need-enum-known-r
+enum-known-r c = search needs
+
+enum-known-line : tie.Need-enum-known-line
+enum-known-line c = search needs
+
+both-requires : tie.Need-both-requires
+both-requires c κs = search needs
+
+walk3-requires : tie.Need-walk3-requires
+walk3-requires c κs = search needs
+
+returns : tie.Need-returns
+unfolding marksBetween
+returns c = rw (ap clip3 (c .enum-told .given .1)) (missed (modelOf (c .before .before .before .before .args .map .model)) (c .before .before .before .before .args .map .frame .0) (now (c .before .before .before .before .args .odds)) (now (c .before .before .before .before .args .stamps)))
+
+returns-2 : tie.Need-returns-2
+unfolding marksBetween
+returns-2 c = rw (ap clip3 (c .before .before .before .before .before .clip .given .1), sym (c .before .before .before .plotter .ensures) ∙ ap plotted3 (c .before .r .given .1)) (not-integrated (modelOf (c .before .before .before .before .before .before .before .before .before .args .map .model)) (c .before .before .before .before .before .before .before .before .before .args .map .frame .0) (now (c .before .before .before .before .before .before .before .before .before .args .odds)) (now (c .before .before .before .before .before .before .before .before .before .args .stamps)) (c .before .r .given .0 .0))
+
+same-length : tie.Need-same-length
+same-length c = search needs
+
+same-length-2 : tie.Need-same-length-2
+same-length-2 c = search needs
+
+returns-3 : tie.Need-returns-3
+unfolding marksBetween
+returns-3 c = rw (ap clip3 (c .before .before .before .before .before .before .before .before .before .before .before .before .before .clip .given .1), sym (c .before .before .before .before .before .before .before .before .before .before .before .plotter .ensures) ∙ ap plotted3 (c .before .before .before .before .before .before .before .before .before .line .given .1), ← c .before .before .before .before .before .both .ensures) (integrated-along (modelOf (c .before .before .before .before .before .before .before .before .before .before .before .before .before .before .before .before .before .args .map .model)) (c .before .before .before .before .before .before .before .before .before .before .before .before .before .before .before .before .before .args .map .frame .0) (now (c .before .before .before .before .before .before .before .before .before .before .before .before .before .before .before .before .before .args .odds)) (now (c .before .before .before .before .before .before .before .before .before .before .before .before .before .before .before .before .before .args .stamps)) _ _ _ _ (c .before .before .before .before .walk3 .ensures))
+
+pub integrate-clipped3-spec : {M : Type 1} → statement M
+integrate-clipped3-spec =
+    tie.close
+    (tie.spec
+    enum-told
+    enum-known-clip
+    plotter-requires
+    enum-known-r
+    enum-known-line
+    both-requires
+    walk3-requires
+    returns
+    returns-2
+    same-length
+    same-length-2
+    returns-3)

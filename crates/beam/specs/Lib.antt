@@ -1,0 +1,2 @@
+-- What marks and beams leave of the lent lists.
+pub mod Applying

@@ -1,0 +1,84 @@
+// A mark by cell: the cell is found in the lists and marked, or skipped where it is off the grid. The answer is how many marks changed it.
+ghost use Prim.Native.Nat.{_<_, _≤_};
+ghost use lib.ListN.{length};
+ghost use Rattle.laws.specs.Checks.{Ready};
+ghost use Rattle.rules.specs.Coordinates.{flatIndex};
+ghost use Rattle.rules.specs.MarksAndFrames.{highestFrame};
+ghost use Rattle.rules.specs.OneBeam.{markOf};
+ghost use Rattle.types.specs.Points.{cell2, cell3, extents2, extents3};
+ghost use Rattle.types.specs.Models.{modelOf};
+ghost use Rattle.grid_map.specs.Heads.{head2, head3};
+ghost use Rattle.beam.specs.Applying.{Applied, one};
+use grid_map::GridMap2;
+use grid_map::GridMap3;
+use marks::mark_free_at;
+use marks::mark_occupied_at;
+use marks::steps_at;
+use places::Place;
+use places::translate_to_index2;
+use places::translate_to_index3;
+use types::Cell2;
+use types::Cell3;
+use types::Frame;
+use types::Model;
+
+// The place is one of the lists', and the frame one that a sweep can have: whoever calls has checked the head and found the place.
+pub fn mark_place(
+    odds: &mut [f64],
+    stamps: &mut [u32],
+    at: usize,
+    model: Model,
+    frame: Frame,
+    occupied: bool,
+) -> u64
+    requires { ⌜ at < length (now odds) ⌝ ∗ ⌜ at < length (now stamps) ⌝ ∗ ⌜ frame .0 ≤ highestFrame ⌝ }
+    ensures { λ r. ⌜ Applied (one at occupied) (modelOf model) (frame .0)
+        (now (odds .entry)) (now (stamps .entry)) r (now (odds .exit)) (now (stamps .exit)) ⌝ }
+{
+    let s = steps_at(model, at);
+    if occupied {
+        if mark_occupied_at(odds, stamps, at, s, frame) {
+            return 1;
+        }
+        return 0;
+    }
+    if mark_free_at(odds, stamps, at, s, frame) {
+        return 1;
+    }
+    0
+}
+
+// A head that has passed its checks, with lists of one number per cell: the entries refuse others with 1 to 4 and 9.
+pub fn mark_cell2(
+    map: GridMap2,
+    odds: &mut [f64],
+    stamps: &mut [u32],
+    cell: Cell2,
+    occupied: bool,
+) -> u64
+    requires { ⌜ Ready (head2 map) (length (now odds)) (length (now stamps)) ⌝ }
+    ensures { λ r. ⌜ Applied (markOf occupied (flatIndex (extents2 (map .extents)) (cell2 cell))) (modelOf (map .model)) (map .frame .0)
+        (now (odds .entry)) (now (stamps .entry)) r (now (odds .exit)) (now (stamps .exit)) ⌝ }
+{
+    match translate_to_index2(map.extents, cell) {
+        Place::Refused(_) => 0,
+        Place::At(i) => mark_place(odds, stamps, i, map.model, map.frame, occupied),
+    }
+}
+
+pub fn mark_cell3(
+    map: GridMap3,
+    odds: &mut [f64],
+    stamps: &mut [u32],
+    cell: Cell3,
+    occupied: bool,
+) -> u64
+    requires { ⌜ Ready (head3 map) (length (now odds)) (length (now stamps)) ⌝ }
+    ensures { λ r. ⌜ Applied (markOf occupied (flatIndex (extents3 (map .extents)) (cell3 cell))) (modelOf (map .model)) (map .frame .0)
+        (now (odds .entry)) (now (stamps .entry)) r (now (odds .exit)) (now (stamps .exit)) ⌝ }
+{
+    match translate_to_index3(map.extents, cell) {
+        Place::Refused(_) => 0,
+        Place::At(i) => mark_place(odds, stamps, i, map.model, map.frame, occupied),
+    }
+}

@@ -1,0 +1,82 @@
+// The walk along a line: every cell is marked free but the last, which is marked as the beam ended.
+ghost use mathlib.Core.Path.{_≡_};
+ghost use mathlib.Core.Bool.{cond, false};
+ghost use lib.Dec.{eqb};
+ghost use lib.Ieee.{binary64};
+ghost use lib.ListN.{length};
+ghost use Rattle.laws.specs.Checks.{Ready};
+ghost use Rattle.rules.specs.TheLine.{lineCells};
+ghost use Rattle.rules.specs.OneBeam.{marksAlong};
+ghost use Rattle.types.specs.Points.{extents2, extents3};
+ghost use Rattle.types.specs.Models.{modelOf};
+ghost use Rattle.bresenham.specs.Lines.{line2, line3};
+ghost use Rattle.grid_map.specs.Heads.{head2, head3};
+ghost use Rattle.beam.specs.Applying.{Applied};
+use crate::marking::mark_cell2;
+use crate::marking::mark_cell3;
+use bresenham::BresenhamLine2;
+use bresenham::BresenhamLine3;
+use bresenham::Step2;
+use bresenham::Step3;
+use grid_map::GridMap2;
+use grid_map::GridMap3;
+
+// Only the last cell, after which nothing remains, is marked as the beam ended.
+fn ends_occupied(occupied: bool, remaining: u64) -> bool
+    ensures { λ r. ⌜ r ≡ cond (eqb remaining 0) occupied false ⌝ }
+{
+    if remaining == 0 {
+        return occupied;
+    }
+    false
+}
+
+pub fn walk2(
+    map: GridMap2,
+    odds: &mut [f64],
+    stamps: &mut [u32],
+    line: BresenhamLine2,
+    occupied: bool,
+) -> u64
+    requires { ⌜ Ready (head2 map) (length (now odds)) (length (now stamps)) ⌝ }
+    ensures { λ r. ⌜ Applied (marksAlong (extents2 (map .extents)) occupied (lineCells binary64 (line2 line))) (modelOf (map .model)) (map .frame .0)
+        (now (odds .entry)) (now (stamps .entry)) r (now (odds .exit)) (now (stamps .exit)) ⌝ }
+{
+    let mut rest = line;
+    let mut count: u64 = 0;
+    let mut remaining = rest.remaining;
+    while remaining > 0 {
+        let Step2::Cell(cell, after) = rest.next() else {
+            return count;
+        };
+        remaining = after.remaining;
+        count += mark_cell2(map, odds, stamps, cell, ends_occupied(occupied, remaining));
+        rest = after;
+    }
+    count
+}
+
+pub fn walk3(
+    map: GridMap3,
+    odds: &mut [f64],
+    stamps: &mut [u32],
+    line: BresenhamLine3,
+    occupied: bool,
+) -> u64
+    requires { ⌜ Ready (head3 map) (length (now odds)) (length (now stamps)) ⌝ }
+    ensures { λ r. ⌜ Applied (marksAlong (extents3 (map .extents)) occupied (lineCells binary64 (line3 line))) (modelOf (map .model)) (map .frame .0)
+        (now (odds .entry)) (now (stamps .entry)) r (now (odds .exit)) (now (stamps .exit)) ⌝ }
+{
+    let mut rest = line;
+    let mut count: u64 = 0;
+    let mut remaining = rest.remaining;
+    while remaining > 0 {
+        let Step3::Cell(cell, after) = rest.next() else {
+            return count;
+        };
+        remaining = after.remaining;
+        count += mark_cell3(map, odds, stamps, cell, ends_occupied(occupied, remaining));
+        rest = after;
+    }
+    count
+}
