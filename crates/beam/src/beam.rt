@@ -61,7 +61,7 @@ fn all_finite2(p: Point2) -> bool
     false
 }
 
-// What clipping left of a beam: nothing, or a line to walk along.
+// What clipping left of a beam: nothing, or a line to walk along. The head has passed its checks: the entries refuse others.
 fn integrate_clipped2(
     map: GridMap2,
     odds: &mut [f64],
@@ -124,7 +124,7 @@ fn all_finite3(p: Point3) -> bool
     false
 }
 
-// What clipping left of a beam: nothing, or a line to walk along.
+// What clipping left of a beam: nothing, or a line to walk along. The head has passed its checks: the entries refuse others.
 fn integrate_clipped3(
     map: GridMap3,
     odds: &mut [f64],

@@ -66,6 +66,7 @@ pub fn mark_cell2(
     }
 }
 
+// As for two axes.
 pub fn mark_cell3(
     map: GridMap3,
     odds: &mut [f64],

@@ -31,6 +31,7 @@ fn ends_occupied(occupied: bool, remaining: u64) -> bool
     false
 }
 
+// On a head that has passed its checks, as `integrate2` requires.
 pub fn walk2(
     map: GridMap2,
     odds: &mut [f64],
@@ -56,6 +57,7 @@ pub fn walk2(
     count
 }
 
+// On a head that has passed its checks, as `integrate3` requires.
 pub fn walk3(
     map: GridMap3,
     odds: &mut [f64],

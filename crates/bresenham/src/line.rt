@@ -212,6 +212,7 @@ impl BresenhamLine3 {
         Step3::Cell(last, rest)
     }
 
+    // As for two axes: `next` has tested that something remains.
     fn earlier_step(self) -> Step3
         requires { ⌜ 0 < self .remaining ⌝ }
         ensures { λ r. ⌜ step3 r ≡ TheLine.earlierStep binary64 (line3 self) ⌝ }

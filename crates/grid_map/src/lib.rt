@@ -1,5 +1,6 @@
 // The map's head, and the entries that need no beam. The original's GridMap.
 mod map;
+mod reads;
 
 pub use map::GridMap2;
 pub use map::GridMap3;

@@ -7,6 +7,7 @@ pub mod OneCell
 pub mod Orders
 pub mod Beams
 pub mod Proof
+pub mod Entries
 pub mod AsTests
 pub mod Examples
 pub mod Needs

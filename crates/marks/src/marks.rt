@@ -52,7 +52,7 @@ fn freed(s: Steps, odds: f64) -> f64
 }
 
 // What an occupied mark adds. A free mark of this frame is taken back first: the free step is negative, and subtracting it adds its size
-// back. On the floor the clamp ate an unknown part of it, so nothing is taken back there.
+// back. On the floor the clamp ate an unknown part of it, so nothing is taken back there. The frame is one that a sweep can have (9).
 fn occupied_step(s: Steps, frame: Frame, odds: f64, stamp: u32) -> f64
     requires { ⌜ frame .0 ≤ Marks.highestFrame ⌝ }
     ensures { λ r. ⌜ r ≡ Marks.occupiedStep binary64 (stepsOf s) (frame .0) (cellOf odds stamp) ⌝ }
@@ -89,7 +89,7 @@ pub fn mark_free_at(odds: &mut [f64], stamps: &mut [u32], at: usize, s: Steps, f
     true
 }
 
-// A cell already marked occupied in this frame is left alone; a free mark of this frame is taken back.
+// A cell already marked occupied in this frame is left alone; a free mark of this frame is taken back. Place and frame as above.
 pub fn mark_occupied_at(
     odds: &mut [f64],
     stamps: &mut [u32],

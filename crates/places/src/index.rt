@@ -59,6 +59,7 @@ pub fn translate_to_index2(extents: Extents2, cell: Cell2) -> Place
     }
 }
 
+// As for two axes.
 pub fn translate_to_index3(extents: Extents3, cell: Cell3) -> Place
     requires { ⌜ InBounds (extents3 extents) ⌝ }
     ensures { λ r. ⌜ placeOf r ≡ flatIndex (extents3 extents) (cell3 cell) ⌝ }

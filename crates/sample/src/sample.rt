@@ -63,6 +63,7 @@ fn edge_at(odds: &[f64], at: usize) -> Edge
     }
 }
 
+// As above, two rows.
 fn square_at(odds: &[f64], at: usize, row: usize) -> Square
     requires { ⌜ at + row + 1 < length (now odds) ⌝ }
     ensures { λ r. ⌜ onSquare r ≡ oddsFrom (now (odds .entry)) at (1 ∷ row ∷ []) ⌝ }
@@ -73,6 +74,7 @@ fn square_at(odds: &[f64], at: usize, row: usize) -> Square
     }
 }
 
+// As above, two planes.
 fn cube_at(odds: &[f64], at: usize, row: usize, plane: usize) -> Cube
     requires { ⌜ at + plane + row + 1 < length (now odds) ⌝ }
     ensures { λ r. ⌜ onCube r ≡ oddsFrom (now (odds .entry)) at (1 ∷ row ∷ plane ∷ []) ⌝ }
@@ -248,6 +250,7 @@ fn sample_at2(extents: Extents2, odds: &[f64], s: Stencil2) -> MapSample2
     }
 }
 
+// As for two axes.
 fn sample_at3(extents: Extents3, odds: &[f64], s: Stencil3) -> MapSample3
     requires { ⌜ highestCorner (extents3 extents) (stencil3 s) < length (now odds) ⌝ }
     ensures { λ r. ⌜ sample3 r ≡ sampleAt binary64 (extents3 extents) (now (odds .entry)) (stencil3 s) ⌝ }

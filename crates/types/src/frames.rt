@@ -15,7 +15,7 @@ impl Frame {
 }
 
 impl Stamp {
-    // The only way to a stamp.
+    // The only way to a stamp. A higher frame's stamp would not fit; whoever marks has refused it with 9.
     pub fn of(frame: Frame, occupied: bool) -> Stamp
         requires { ⌜ frame .0 ≤ highestFrame ⌝ }
         ensures { λ r. ⌜ r .0 ≡ stampOf (frame .0) occupied ⌝ }
