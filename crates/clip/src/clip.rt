@@ -35,10 +35,9 @@ pub enum Clip3 {
 fn directions2(origin: Point2, endpoint: Point2) -> Vector2
     ensures { λ r. ⌜ vector2 r ≡ OneBeam.directions binary64 (point2 origin) (point2 endpoint) ⌝ }
 {
-    Vector2 {
-        x: endpoint.x - origin.x,
-        y: endpoint.y - origin.y,
-    }
+    let x = endpoint.x - origin.x;
+    let y = endpoint.y - origin.y;
+    Vector2 { x, y }
 }
 
 fn slabs2(extents: Extents2, origin: Point2, direction: Vector2) -> Passage
@@ -57,10 +56,9 @@ fn slabs2(extents: Extents2, origin: Point2, direction: Vector2) -> Passage
 fn point_at2(origin: Point2, direction: Vector2, t: f64) -> Point2
     ensures { λ r. ⌜ point2 r ≡ OneBeam.pointAt binary64 t (point2 origin) (vector2 direction) ⌝ }
 {
-    Point2 {
-        x: point_on(origin.x, direction.x, t),
-        y: point_on(origin.y, direction.y, t),
-    }
+    let at_x = point_on(origin.x, direction.x, t);
+    let at_y = point_on(origin.y, direction.y, t);
+    Point2 { x: at_x, y: at_y }
 }
 
 fn both_beyond2(extents: Extents2, entry: Point2, exit: Point2) -> bool
@@ -86,10 +84,9 @@ fn is_inside2(extents: Extents2, t: f64, exit: Point2) -> bool
 fn clamp_to_addressable_cell2(extents: Extents2, p: Point2) -> Point2
     ensures { λ r. ⌜ point2 r ≡ OneBeam.clampPoint binary64 (extents2 extents) (point2 p) ⌝ }
 {
-    Point2 {
-        x: clamp_axis(extents.x, p.x),
-        y: clamp_axis(extents.y, p.y),
-    }
+    let x = clamp_axis(extents.x, p.x);
+    let y = clamp_axis(extents.y, p.y);
+    Point2 { x, y }
 }
 
 fn clipped_at2(extents: Extents2, t: f64, entry: Point2, exit: Point2) -> Clip2
@@ -123,11 +120,10 @@ pub fn clip_segment2(extents: Extents2, origin: Point2, endpoint: Point2) -> Cli
 fn directions3(origin: Point3, endpoint: Point3) -> Vector3
     ensures { λ r. ⌜ vector3 r ≡ OneBeam.directions binary64 (point3 origin) (point3 endpoint) ⌝ }
 {
-    Vector3 {
-        x: endpoint.x - origin.x,
-        y: endpoint.y - origin.y,
-        z: endpoint.z - origin.z,
-    }
+    let x = endpoint.x - origin.x;
+    let y = endpoint.y - origin.y;
+    let z = endpoint.z - origin.z;
+    Vector3 { x, y, z }
 }
 
 fn slabs3(extents: Extents3, origin: Point3, direction: Vector3) -> Passage
@@ -149,10 +145,13 @@ fn slabs3(extents: Extents3, origin: Point3, direction: Vector3) -> Passage
 fn point_at3(origin: Point3, direction: Vector3, t: f64) -> Point3
     ensures { λ r. ⌜ point3 r ≡ OneBeam.pointAt binary64 t (point3 origin) (vector3 direction) ⌝ }
 {
+    let at_x = point_on(origin.x, direction.x, t);
+    let at_y = point_on(origin.y, direction.y, t);
+    let at_z = point_on(origin.z, direction.z, t);
     Point3 {
-        x: point_on(origin.x, direction.x, t),
-        y: point_on(origin.y, direction.y, t),
-        z: point_on(origin.z, direction.z, t),
+        x: at_x,
+        y: at_y,
+        z: at_z,
     }
 }
 
@@ -184,11 +183,10 @@ fn is_inside3(extents: Extents3, t: f64, exit: Point3) -> bool
 fn clamp_to_addressable_cell3(extents: Extents3, p: Point3) -> Point3
     ensures { λ r. ⌜ point3 r ≡ OneBeam.clampPoint binary64 (extents3 extents) (point3 p) ⌝ }
 {
-    Point3 {
-        x: clamp_axis(extents.x, p.x),
-        y: clamp_axis(extents.y, p.y),
-        z: clamp_axis(extents.z, p.z),
-    }
+    let x = clamp_axis(extents.x, p.x);
+    let y = clamp_axis(extents.y, p.y);
+    let z = clamp_axis(extents.z, p.z);
+    Point3 { x, y, z }
 }
 
 fn clipped_at3(extents: Extents3, t: f64, entry: Point3, exit: Point3) -> Clip3
