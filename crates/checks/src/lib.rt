@@ -65,7 +65,14 @@ impl Uses {
         frame: false,
     };
 
-    pub const READS_AND_SAMPLES: Uses = Uses {
+    pub const CELL_READS: Uses = Uses {
+        model: false,
+        odds: true,
+        stamps: false,
+        frame: false,
+    };
+
+    pub const SAMPLES: Uses = Uses {
         model: false,
         odds: true,
         stamps: false,

@@ -3,10 +3,10 @@ use mathlib.Core.Path.{_≡_, refl, ap}
 use Rattle.rules.specs.TheGridAndItsBounds.{Head}
 use Rattle.types.proofs.Injective.{Injective, of-back, extents2-back, extents3-back, model-back}
 use Rattle.types.proofs.InjectiveAnswers.{answer-back, refusal-there}
-use Rattle.grid_map.specs.declared.map.GridMap2.{GridMap2}
-use Rattle.grid_map.specs.declared.map.GridMap3.{GridMap3}
-use Rattle.grid_map.specs.declared.map.MapAnswer2 as MapAnswer2
-use Rattle.grid_map.specs.declared.map.MapAnswer3 as MapAnswer3
+use Rattle.grid_map.specs.declared.map2.GridMap2.{GridMap2}
+use Rattle.grid_map.specs.declared.map3.GridMap3.{GridMap3}
+use Rattle.grid_map.specs.declared.map2.MapAnswer2 as MapAnswer2
+use Rattle.grid_map.specs.declared.map3.MapAnswer3 as MapAnswer3
 use Rattle.grid_map.specs.Heads.{head2, head3, mapAnswer2, mapAnswer3}
 
 abbrev head2-back : Head → GridMap2

@@ -11,10 +11,10 @@ use Rattle.types.specs.Refusals.{refusalOf}
 use Rattle.types.specs.Answers.{setAnswer}
 use Rattle.types.specs.declared.answers.SetAnswer as SetAnswer
 use Rattle.marks.specs.Marking.{gridOf}
-use Rattle.grid_map.specs.declared.map.GridMap2.{GridMap2}
-use Rattle.grid_map.specs.declared.map.GridMap3.{GridMap3}
-use Rattle.grid_map.specs.declared.map.MapAnswer2 as MapAnswer2
-use Rattle.grid_map.specs.declared.map.MapAnswer3 as MapAnswer3
+use Rattle.grid_map.specs.declared.map2.GridMap2.{GridMap2}
+use Rattle.grid_map.specs.declared.map3.GridMap3.{GridMap3}
+use Rattle.grid_map.specs.declared.map2.MapAnswer2 as MapAnswer2
+use Rattle.grid_map.specs.declared.map3.MapAnswer3 as MapAnswer3
 
 abbrev pub head2 : GridMap2 → Head
 head2 m = record { extents = extents2 (m .extents); model = modelOf (m .model); frame = m .frame .0 }

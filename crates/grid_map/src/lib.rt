@@ -1,8 +1,8 @@
 // The map's head, and the entries that need no beam. The original's GridMap.
-mod map;
-mod reads;
+mod map2;
+mod map3;
 
-pub use map::GridMap2;
-pub use map::GridMap3;
-pub use map::MapAnswer2;
-pub use map::MapAnswer3;
+pub use map2::GridMap2;
+pub use map2::MapAnswer2;
+pub use map3::GridMap3;
+pub use map3::MapAnswer3;
