@@ -2,10 +2,9 @@
 // Which axes a line has, and when it ends, is left to `line`.
 ghost use mathlib.Core.Path.{_≡_};
 ghost use lib.Ieee.{binary64};
-ghost use lib.Ieee.Scale.{finite};
 ghost use Rattle.rules.specs.TheLine as TheLine;
 ghost use Rattle.bresenham.specs.Axes.{axis, primary};
-use crate::truncate::count_of;
+use floats::count_of;
 
 // Where the line is along an axis, where it ends, and the error that decides when it moves along it.
 pub struct Axis {
@@ -42,16 +41,6 @@ pub fn delta(start: f64, end: f64) -> f64
         return 0.0;
     }
     d
-}
-
-// Neither a NaN nor an infinity.
-pub fn is_finite(x: f64) -> bool
-    ensures { λ r. ⌜ r ≡ finite x ⌝ }
-{
-    if x < 1.0 / 0.0 {
-        return -1.0 / 0.0 < x;
-    }
-    false
 }
 
 // The larger of an axis and the best so far; the last of equals.

@@ -1,18 +1,9 @@
--- Spans, slabs and clips as the rules' values. Definitions only.
+-- Clips as the rules' values. Definitions only.
 use mathlib.Core.Option.{Option, some, none}
 use Rattle.rules.specs.OneBeam as OneBeam
 use Rattle.types.specs.Beams.{clipped2, clipped3}
 use Rattle.clip.specs.declared.clip.Clip2 as Clip2
 use Rattle.clip.specs.declared.clip.Clip3 as Clip3
-use Rattle.clip.specs.declared.slabs.Span.{Span}
-use Rattle.clip.specs.declared.slabs.Passage as Passage
-
-abbrev pub spanOf : Span → OneBeam.Span
-spanOf s = record { entry = s .entry; exit = s .exit }
-
-abbrev pub passageOf : Passage.Passage → Option OneBeam.Span
-passageOf (Passage.the-variants.Open s) = some (spanOf s)
-passageOf Passage.the-variants.Miss = none
 
 abbrev pub clip2 : Clip2.Clip2 → Option OneBeam.Clipped
 clip2 (Clip2.the-variants.Segment c) = some (clipped2 c)

@@ -1,17 +1,18 @@
 // Clipping a beam to the map's box by slabs. This is what bounds a beam's work: a step count follows from a length, so an absurd but finite
-// endpoint would otherwise be walked cell by cell only to be discarded. What each axis does stands in `slabs`.
+// endpoint would otherwise be walked cell by cell only to be discarded. What each axis does stands in the crate `slabs`.
 ghost use mathlib.Core.Path.{_≡_};
 ghost use lib.Ieee.{binary64};
 ghost use Rattle.rules.specs.OneBeam as OneBeam;
 ghost use Rattle.types.specs.Points.{extents2, extents3, point2, point3, vector2, vector3};
-ghost use Rattle.clip.specs.Clips.{passageOf, clip2, clip3};
-use crate::slabs::Passage;
-use crate::slabs::Span;
-use crate::slabs::beyond;
-use crate::slabs::clamp_axis;
-use crate::slabs::point_on;
-use crate::slabs::slab;
+ghost use Rattle.slabs.specs.Spans.{passageOf};
+ghost use Rattle.clip.specs.Clips.{clip2, clip3};
 use places::within;
+use slabs::Passage;
+use slabs::Span;
+use slabs::beyond;
+use slabs::clamp_axis;
+use slabs::point_on;
+use slabs::slab;
 use types::Clipped2;
 use types::Clipped3;
 use types::Extents2;

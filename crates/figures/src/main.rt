@@ -1,7 +1,7 @@
 // Every figure of document 01, starred or not, run through the entries and printed with what came out; then a picture of a sweep.
 // What it prints is held to the file `stdout`. What document 01 expects stands before each outcome in brackets.
 // This room holds what all of them print with; each kind of figure has its own.
-use bresenham::count_of;
+use floats::count_of;
 use grid_map::GridMap2;
 use grid_map::MapAnswer2;
 use libc::STDOUT_FILENO;

@@ -5,8 +5,8 @@ ghost use Rattle.rules.specs.Coordinates.{within as withinRule, axisContaining,
 ghost use Rattle.types.specs.Answers.{cellAnswer2, cellAnswer3};
 ghost use Rattle.types.specs.Points.{extents2, extents3, point2, point3};
 ghost use Rattle.places.specs.Places.{containingOf};
-use bresenham::cell_of;
-use bresenham::is_finite;
+use floats::cell_of;
+use floats::is_finite;
 use types::Cell2;
 use types::Cell3;
 use types::CellAnswer2;

@@ -4,7 +4,7 @@ use lib.Ieee.{binary64}
 use lib.Ieee.Fits.{sub-fits}
 use Rattle.rules.specs.TheLine.{delta}
 use Rattle.laws.specs.Literals.{zero-is}
-use Rattle.bresenham.proofs.Sizes.{below-zero, at-zero, above-zero}
+use Rattle.floats.proofs.Sizes.{below-zero, at-zero, above-zero}
 use Rattle.bresenham.proofs.axis.delta.Statement.{statement}
 use Rattle.bresenham.proofs.axis.delta.Tie as tie
 

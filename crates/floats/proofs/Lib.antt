@@ -1,0 +1,4 @@
+pub mod Pattern
+pub mod Ranges
+pub mod Sizes
+pub mod WholePart

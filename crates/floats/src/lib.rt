@@ -1,0 +1,79 @@
+// What is asked of one float: whether it is finite, and its whole number as Rust's `as` gives it: toward zero, to the nearest end of the range beyond it, 0 for a NaN.
+// The 64 bits are split into sign, exponent and fraction, and the fraction is shifted. Nothing here knows of lines or grids.
+ghost use mathlib.Core.Path.{_≡_};
+ghost use Prim.Native.Nat.{_^_, _<_};
+ghost use lib.Ieee.{toUnsigned};
+ghost use lib.Ieee.Scale.{finite};
+ghost use Rattle.rules.specs.Coordinates.{truncated};
+ghost use Rattle.floats.specs.Whole.{wholePart};
+
+// The whole part of a size that the fields `exponent` and `fraction` stand for. From exponent 1087 on it would not fit, and a
+// fraction has 52 bits: the callers' tests and masks see to both.
+fn whole_part(exponent: u64, fraction: u64) -> u64
+    requires { ⌜ exponent < 1087 ⌝ ∗ ⌜ fraction < 2 ^ 52 ⌝ }
+    ensures { λ r. ⌜ r ≡ wholePart exponent fraction ⌝ }
+{
+    let digits: u64 = fraction | 0x10_0000_0000_0000;
+    if exponent > 1075 {
+        return digits << (exponent - 1075);
+    }
+    let places: u64 = 1075 - exponent;
+    if places > 52 {
+        return 0;
+    }
+    digits >> places
+}
+
+// A coordinate's cell.
+pub fn cell_of(x: f64) -> i64
+    ensures { λ r. ⌜ r ≡ truncated x ⌝ }
+{
+    if x != x {
+        return 0;
+    }
+    let bits: u64 = f64::to_bits(x);
+    let sign: u64 = bits >> 63;
+    let exponent: u64 = (bits >> 52) & 0x7ff;
+    let fraction: u64 = bits & 0xf_ffff_ffff_ffff;
+    if exponent < 1086 {
+        let size = whole_part(exponent, fraction);
+        if sign == 0 {
+            return size as i64;
+        }
+        return -(size as i64);
+    }
+    if sign == 0 {
+        return 9223372036854775807;
+    }
+    -9223372036854775808
+}
+
+// A count: nothing below zero.
+pub fn count_of(x: f64) -> u64
+    ensures { λ r. ⌜ r ≡ toUnsigned 64 x ⌝ }
+{
+    if x != x {
+        return 0;
+    }
+    let bits: u64 = f64::to_bits(x);
+    let sign: u64 = bits >> 63;
+    let exponent: u64 = (bits >> 52) & 0x7ff;
+    let fraction: u64 = bits & 0xf_ffff_ffff_ffff;
+    if sign != 0 {
+        return 0;
+    }
+    if exponent < 1087 {
+        return whole_part(exponent, fraction);
+    }
+    18446744073709551615
+}
+
+// Neither a NaN nor an infinity.
+pub fn is_finite(x: f64) -> bool
+    ensures { λ r. ⌜ r ≡ finite x ⌝ }
+{
+    if x < 1.0 / 0.0 {
+        return -1.0 / 0.0 < x;
+    }
+    false
+}

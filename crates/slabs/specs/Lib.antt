@@ -1,0 +1,2 @@
+-- What a slab stands for in the rules.
+pub mod Spans
