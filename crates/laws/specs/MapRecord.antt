@@ -1,0 +1,113 @@
+-- Document 01, "Map record (added)": a map that is written and read is the same map, a record that is read and written has the same bytes, two
+-- readings of the same bytes agree, and bytes are a record or broken at one offset. Of any number of axes. `MapRecord.Words` has the words
+-- used here beside the rules'; the files beside it have the steps of the proofs. Assumes nothing.
+pub mod Words
+pub mod Each
+pub mod Bytes
+pub mod Numbers
+pub mod Fields
+pub mod Rows
+pub mod Heads
+pub mod Back
+pub mod Read
+pub mod Entries
+use Prim.Native.Nat.{ℕ, _≤_, _<_}
+use mathlib.Core.List.{List, [], _∷_, _++_}
+use mathlib.Core.Logic.{_⊎_, inl, inr}
+use mathlib.Core.Option.{none}
+use mathlib.Core.Path.{_≡_, refl, sym, ap, ap₂, _∙_, subst}
+use native.Mathlib.Omega.{arith}
+use lib.IntN.{pos}
+use lib.ListN.{length, take, drop}
+use lib.Seq.{take-at}
+use lib.Ieee.{Float}
+use Rattle.rules.specs.RefusalNumbers.{Refusal, Answer, given, refused, brokenRecord}
+use Rattle.rules.specs.RefusalNumbers.Entries.{headRefusal, usesOf, writing, Outcome, readRecordEntry, writeRecordEntry}
+use Rattle.rules.specs.TheGridAndItsBounds.{Head, Grid, cells}
+use Rattle.rules.specs.MapRecord.{Stored, recordBytes, recordOf, writable}
+use Rattle.laws.specs.MapRecord.Words.{AreBytes, NoNan, Held, IsRecord, IsBroken, mapRead, SameReading}
+use Rattle.laws.specs.MapRecord.Fields.{begins-within}
+use Rattle.laws.specs.MapRecord.Heads.{rows-are-cells, tests-of-writing}
+use Rattle.laws.specs.MapRecord.Back.{record-bytes-length, writable-is, record-back}
+use Rattle.laws.specs.MapRecord.Read.{read-again, read-sound, record-broken}
+use Rattle.laws.specs.MapRecord.Entries.{reads, read-from, same-reading, wrote-into, writes}
+
+-- ---- written, then read
+-- A map that can be written is read again from its record as it was: the same extents, the same model and frame, and for every cell the same odds
+-- as data, with the sign of a zero. An odds number that is a NaN reads as the NaN.
+pub written-then-read : (axes : ℕ) (h : Head) (odds : List Float) (room n : ℕ) → length (h .extents) ≡ axes → 0 < axes
+    → headRefusal (usesOf writing) h (length odds) 0 ≡ none → writable h odds room ≡ given n → Held h odds
+    → recordOf axes (recordBytes h odds) ≡ given (record { head = h; odds = odds })
+written-then-read axes h odds room n many some-axis passes w held =
+    subst (λ (k : ℕ). recordOf k (recordBytes h odds) ≡ given (record { head = h; odds = odds })) many
+    (record-back h odds _ (omega arith) passes (writable-is h odds room n w .checked) held)
+
+-- The record has as many bytes as writing answers, which are no more than there was room for.
+pub written-length : (h : Head) (odds : List Float) (room n : ℕ) → 0 < length (h .extents) → headRefusal (usesOf writing) h (length odds) 0 ≡ none
+    → writable h odds room ≡ given n → (length (recordBytes h odds) ≡ n) × (n ≤ room)
+written-length h odds room n some-axis passes w =
+    let size = writable-is h odds room n w .size in
+    (record-bytes-length h odds (tests-of-writing h (length odds) passes .0 .count ∙ rows-are-cells (h .extents) some-axis) ∙ size .0, size .1)
+
+-- The same of the entries: the first n bytes of what writing left, n its answer, are read into any grid of the map's sizes as the same head and
+-- the same odds, with all stamps 0.
+pub entries-written-then-read : (axes : ℕ) (h : Head) (odds : List Float) (out : List ℕ) (n : ℕ) (g : Grid) → length (h .extents) ≡ axes → 0 < axes
+    → Held h odds → writeRecordEntry h odds out .answer ≡ given n
+    → length (g .odds) ≡ cells (h .extents) → length (g .stamps) ≡ cells (h .extents)
+    → readRecordEntry axes (take n (writeRecordEntry h odds out .lent)) g ≡ mapRead (record { head = h; odds = odds })
+entries-written-then-read axes h odds out n g many some-axis held answer one-odds one-stamp =
+    let w = wrote-into h odds out n answer in
+    let size = written-length h odds (length out) n (omega arith) (w .passes) (w .counted) .0 in
+    let bytes : take n (writeRecordEntry h odds out .lent) ≡ recordBytes h odds =
+    ap (take n) (w .lent-is) ∙ take-at (recordBytes h odds) (drop n out) n size in
+    let back = written-then-read axes h odds (length out) n many some-axis (w .passes) (w .counted) held in
+    rw bytes (reads axes (recordBytes h odds) (record { head = h; odds = odds }) g back (one-odds, one-stamp))
+
+-- ---- read, then written
+-- A map that was read from a record, with no NaN among its odds, is written as the same bytes. (A NaN's bytes are not kept: every NaN is written
+-- alike. The model has none, since it is within its bounds.)
+pub read-then-written : (axes : ℕ) (bytes : List ℕ) (s : Stored) → recordOf axes bytes ≡ given s → AreBytes bytes → NoNan (s .odds)
+    → recordBytes (s .head) (s .odds) ≡ bytes
+read-then-written = read-again
+
+-- The same of the entries: what was read into the grid is written over the first bytes of any list that is long enough, the rest of which stays.
+pub entries-read-then-written : (axes : ℕ) (bytes : List ℕ) (g : Grid) (h : Head) (out : List ℕ) → 0 < axes → AreBytes bytes
+    → readRecordEntry axes bytes g .answer ≡ given h → NoNan (readRecordEntry axes bytes g .lent .odds) → length bytes ≤ length out
+    → writeRecordEntry h (readRecordEntry axes bytes g .lent .odds) out
+    ≡ record { answer = given (length bytes); lent = bytes ++ drop (length bytes) out }
+entries-read-then-written axes bytes g h out some-axis b answer no-nan room =
+    let r = read-from axes bytes g h answer in
+    let s = r .stored in
+    let sound = read-sound axes bytes s some-axis (r .is) in
+    let left : readRecordEntry axes bytes g ≡ mapRead s = reads axes bytes s g (r .is) (r .sizes) in
+    let no-nan′ : NoNan (s .odds) = subst (λ x. NoNan (x .lent .odds)) left no-nan in
+    ap₂ (λ (x : Head) (y : Outcome Head Grid). writeRecordEntry x (y .lent .odds) out) (sym (r .head-is)) left
+    ∙ writes (s .head) (s .odds) out (length bytes) (sound .passes) (sound .written (length out) room)
+    ∙ ap (λ (x : List ℕ). record { answer = given (length bytes); lent = x ++ drop (length bytes) out }) (read-again axes bytes s (r .is) b no-nan′)
+
+-- ---- two readings
+-- Two grids lent to read the same bytes, whatever they hold, get the same answer if they have the same sizes; and where a map is given, both grids
+-- end the same.
+pub two-readings : (axes : ℕ) (bytes : List ℕ) (g k : Grid) → SameReading axes bytes g k
+two-readings = same-reading
+
+-- ---- all bytes
+one-offset : (o p : ℕ) → brokenRecord o ≡ brokenRecord p → o ≡ p
+one-offset o p e = let v : pos o ∷ [] ≡ pos p ∷ [] = ap (λ (r : Refusal). r .values) e in cc
+
+-- Every list of numbers is a record, as long as its extents say and with a map that may be written again; or it is refused at one offset, where a
+-- field begins, at most its end.
+pub record-or-broken : (axes : ℕ) (bytes : List ℕ) → 0 < axes → IsRecord axes bytes ⊎ IsBroken axes bytes
+record-or-broken axes bytes some-axis = go (recordOf axes bytes) refl
+  where
+    go : (a : Answer Stored) → recordOf axes bytes ≡ a → IsRecord axes bytes ⊎ IsBroken axes bytes
+    go (given s) e = inl (record { stored = s; is = e; sound = read-sound axes bytes s some-axis e })
+    go (refused r) e =
+        let b = record-broken axes bytes r e in
+        inr (record {
+          offset = b .offset;
+          is = e ∙ ap refused (sym (b .is));
+          only = λ o q. let z : brokenRecord o ≡ brokenRecord (b .offset) = cc (b .is) in one-offset o (b .offset) z;
+          begins = b .begins;
+          within = begins-within bytes (b .offset) (b .begins);
+        })

@@ -1,0 +1,85 @@
+-- The words that the laws of the map record are said in, beside the rules' own: bytes and floats as a lent list is known to hold them, where a
+-- field begins, what is known of a record that was read and of a refusal. Definitions only.
+use Prim.Native.Nat.{ℕ, _+_, _≤_, _<_}
+use mathlib.Core.Bool.{true}
+use mathlib.Core.List.{List}
+use mathlib.Core.Option.{none}
+use mathlib.Core.Path.{_≡_}
+use lib.ListN.{length, getD, drop, replicate}
+use lib.Ieee.{Float, nan, binary64, fits}
+use Rattle.rules.specs.RefusalNumbers.{given, refused, brokenRecord}
+use Rattle.rules.specs.RefusalNumbers.Entries.{headRefusal, usesOf, writing, Outcome, readRecordEntry}
+use Rattle.rules.specs.TheGridAndItsBounds.{Head, Grid, cells}
+use Rattle.rules.specs.MapRecord.{Stored, fromLittleEndian, fieldSize, recordOf, recordSize, writable}
+
+-- a fact of each element of a list, by its place
+abbrev pub Each : {A : Type 0} → (A → Type 0) → A → List A → Type 0
+Each P d xs = (i : ℕ) → i < length xs → P (getD xs i d)
+
+-- a byte; what every lent list of bytes is known to hold
+abbrev pub IsByte : ℕ → Type 0
+IsByte b = b < 256
+
+abbrev pub AreBytes : List ℕ → Type 0
+AreBytes bs = Each IsByte 0 bs
+
+-- a value that binary64 holds: what every f64 is known to be, the NaN and the infinities among them
+abbrev pub Is64 : Float → Type 0
+Is64 x = fits binary64 x ≡ true
+
+abbrev pub Are64 : List Float → Type 0
+Are64 xs = Each Is64 nan xs
+
+abbrev pub NotNan : Float → Type 0
+NotNan x = ¬ (x ≡ nan)
+
+abbrev pub NoNan : List Float → Type 0
+NoNan xs = Each NotNan nan xs
+
+-- the floats of a map are values of binary64, as those lent to an entry are
+pub record Held (h : Head) (odds : List Float) : Type 0 where
+  pub occupied : Is64 (h .model .occupied)
+  pub free : Is64 (h .model .free)
+  pub ceiling : Is64 (h .model .ceiling)
+  pub each-odds : Are64 odds
+
+-- A field begins at the first byte; and behind each field that stands whole, by the length that it bears, the next one begins.
+pub data FieldBegins (bytes : List ℕ) : ℕ → Type 0 where
+  first : FieldBegins bytes 0
+  behind : (o n : ℕ) → FieldBegins bytes o → o + fieldSize n ≤ length bytes → fromLittleEndian 2 (drop 1 (drop o bytes)) ≡ n
+      → FieldBegins bytes (o + fieldSize n)
+
+-- what is known of a record of so many axes: it is as long as its extents say, and its map may be written again
+pub record Sound (axes : ℕ) (bytes : List ℕ) (s : Stored) : Type 0 where
+  pub axes-are : length (s .head .extents) ≡ axes
+  pub size-is : length bytes ≡ recordSize (s .head .extents)
+  pub passes : headRefusal (usesOf writing) (s .head) (length (s .odds)) 0 ≡ none
+  pub written : (room : ℕ) → length bytes ≤ room → writable (s .head) (s .odds) room ≡ given (length bytes)
+  pub held : Held (s .head) (s .odds)
+
+-- bytes that are a record of so many axes
+pub record IsRecord (axes : ℕ) (bytes : List ℕ) : Type 0 where
+  pub stored : Stored
+  pub is : recordOf axes bytes ≡ given stored
+  pub sound : Sound axes bytes stored
+
+-- bytes that are none: they are refused with number 10 at one offset, at most the end of the bytes, where a field begins
+pub record IsBroken (axes : ℕ) (bytes : List ℕ) : Type 0 where
+  pub offset : ℕ
+  pub is : recordOf axes bytes ≡ refused (brokenRecord offset)
+  pub only : (o : ℕ) → recordOf axes bytes ≡ refused (brokenRecord o) → o ≡ offset
+  pub begins : FieldBegins bytes offset
+  pub within : offset ≤ length bytes
+
+-- what reading leaves where it is not refused: the head as the answer, the odds, and stamps 0
+abbrev pub mapRead : Stored → Outcome Head Grid
+mapRead s = record { answer = given (s .head); lent = record { odds = s .odds; stamps = replicate (cells (s .head .extents)) 0 } }
+
+-- two lent grids, read into from the same bytes
+pub record SameReading (axes : ℕ) (bytes : List ℕ) (g k : Grid) : Type 0 where
+  -- grids of the same sizes get the same answer
+  pub answers : length (g .odds) ≡ length (k .odds) → length (g .stamps) ≡ length (k .stamps)
+      → readRecordEntry axes bytes g .answer ≡ readRecordEntry axes bytes k .answer
+  -- where a map is given into both, answers and grids are the same
+  pub maps : (h j : Head) → readRecordEntry axes bytes g .answer ≡ given h → readRecordEntry axes bytes k .answer ≡ given j
+      → readRecordEntry axes bytes g ≡ readRecordEntry axes bytes k
