@@ -11,6 +11,7 @@ pub mod Heads
 pub mod Back
 pub mod Read
 pub mod Entries
+pub mod Needs
 use Prim.Native.Nat.{ℕ, _≤_, _<_}
 use mathlib.Core.List.{List, [], _∷_, _++_}
 use mathlib.Core.Logic.{_⊎_, inl, inr}

@@ -1,6 +1,9 @@
--- A fact of each element of a list, said by its place, as the facts about a lent list's numbers are. Assumes nothing.
+-- A fact of each element of a list, said by its place, as the facts about a lent list's numbers are; and tests of which all must hold.
+-- Assumes nothing.
 use Prim.Native.Nat.{ℕ, zero, suc}
 use mathlib.Core.List.{List, [], _∷_, _++_}
+use mathlib.Core.Bool.{Bool, true, false, _&&_}
+use mathlib.Core.Path.{_≡_, refl}
 use native.Mathlib.Omega.{arith}
 use lib.ListN.{take, drop}
 use Rattle.laws.specs.MapRecord.Words.{Each}
@@ -37,3 +40,11 @@ module _ {A : Type 0} (P : A → Type 0) (d : A) where
   pub each-append : (xs ys : List A) → Each P d xs → Each P d ys → Each P d (xs ++ ys)
   each-append [] ys h g = g
   each-append (x ∷ xs) ys h g = each-cons x (xs ++ ys) (h 0 (omega arith)) (each-append xs ys (each-tail x xs h) g)
+
+pub both : (a b : Bool) → a && b ≡ true → (a ≡ true) × (b ≡ true)
+both true true e = (refl, refl)
+both true false e = let z : _≡_ {A = ℕ} 0 1 = cc in absurd (omega arith)
+both false b e = let z : _≡_ {A = ℕ} 0 1 = cc in absurd (omega arith)
+
+pub all-three : (a b c : Bool) → a && b && c ≡ true → (a ≡ true) × (b ≡ true) × (c ≡ true)
+all-three a b c e = let x = both (a && b) c e in let y = both a b (x .0) in (y .0, y .1, x .1)

@@ -15,7 +15,7 @@ use Rattle.rules.specs.RefusalNumbers.Entries.{unlessRefused, readAnswer, readR
 use Rattle.rules.specs.TheGridAndItsBounds.{Head, Grid, cells, onePerCell}
 use Rattle.rules.specs.MapRecord.{Stored, recordBytes, recordOf, writable}
 use Rattle.laws.specs.MapRecord.Words.{mapRead, SameReading}
-use Rattle.laws.specs.MapRecord.Fields.{both}
+use Rattle.laws.specs.MapRecord.Each.{both}
 
 -- ---- reading
 -- one odds number and one stamp for each cell of the map that was read

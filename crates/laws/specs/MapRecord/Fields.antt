@@ -13,7 +13,7 @@ use borrow.Author.Tests.{leb-true, eqb-true, le-leb, eq-eqb}
 use Rattle.rules.specs.RefusalNumbers.{Refusal, Answer, given, refused, andThen, brokenRecord}
 use Rattle.rules.specs.MapRecord.{littleEndian, fromLittleEndian, field, fieldHere, fieldSize, soundOr}
 use Rattle.laws.specs.MapRecord.Words.{IsByte, AreBytes, FieldBegins, first, behind}
-use Rattle.laws.specs.MapRecord.Each.{each-drop}
+use Rattle.laws.specs.MapRecord.Each.{each-drop, both, all-three}
 use Rattle.laws.specs.MapRecord.Bytes.{little-endian-length, little-endian-back, little-endian-again}
 
 -- ---- a field
@@ -30,13 +30,6 @@ field-contents tag bs rest = refl
 
 pub field-after : (tag : ℕ) (bs rest : List ℕ) (n : ℕ) → length bs ≡ n → drop (fieldSize n) (field tag bs ++ rest) ≡ rest
 field-after tag bs rest n e = drop-at (field tag bs) rest (fieldSize n) (field-length tag bs ∙ ap fieldSize e)
-
--- the first of three tests, and so on
-pub all-three : (a b c : Bool) → a && b && c ≡ true → (a ≡ true) × (b ≡ true) × (c ≡ true)
-all-three true true true e = (refl, refl, refl)
-all-three true true false e = let z : _≡_ {A = ℕ} 0 1 = cc in absurd (omega arith)
-all-three true false c e = let z : _≡_ {A = ℕ} 0 1 = cc in absurd (omega arith)
-all-three false b c e = let z : _≡_ {A = ℕ} 0 1 = cc in absurd (omega arith)
 
 -- a field that was written stands there whole
 pub field-found : (tag : ℕ) (bs rest : List ℕ) (n : ℕ) → length bs ≡ n → n < 65_536 → fieldHere tag n (field tag bs ++ rest) ≡ true
@@ -76,11 +69,6 @@ field-again tag n (t ∷ a ∷ b ∷ cs) bs f =
     ∙ ap (λ (l : List ℕ). t ∷ a ∷ b ∷ l) (take-append-drop n cs)
 
 -- ---- the steps of reading
-pub both : (a b : Bool) → a && b ≡ true → (a ≡ true) × (b ≡ true)
-both true true e = (refl, refl)
-both true false e = let z : _≡_ {A = ℕ} 0 1 = cc in absurd (omega arith)
-both false b e = let z : _≡_ {A = ℕ} 0 1 = cc in absurd (omega arith)
-
 module _ {A B : Type 0} where
   -- what is given at the end was given at each step
   pub sound-given : (o : ℕ) (sound : Bool) (a : A) (go : A → Answer B) (b : B) → andThen (soundOr o sound a) go ≡ given b

@@ -21,9 +21,8 @@ use Rattle.rules.specs.MapRecord.{rowWidth, rowCount}
 use Rattle.laws.specs.Checks.{AxesInBounds, InBounds, passed, none-too-small}
 use Rattle.laws.specs.Floats.Tests.{order}
 use Rattle.laws.specs.MapRecord.Words.{Each}
-use Rattle.laws.specs.MapRecord.Each.{each-nil, each-cons}
+use Rattle.laws.specs.MapRecord.Each.{each-nil, each-cons, both}
 use Rattle.laws.specs.MapRecord.Numbers.{InTwoBytes}
-use Rattle.laws.specs.MapRecord.Fields.{both}
 
 -- ---- sizes
 extents-multiply : (es : List ℕ) → AxesInBounds es → 2 ^ length es ≤ cells es

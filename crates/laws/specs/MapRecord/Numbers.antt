@@ -1,7 +1,7 @@
 -- Numbers of the same width one after another, as a record's extents and floats are: what was written is read again, and what was read is
 -- written again. One law for both, then each by its name in the rules. Assumes nothing.
 use Prim.Native.Nat.{ℕ, zero, suc, _+_, _*_, _^_, _≤_, _<_}
-use mathlib.Core.Bool.{not}
+use mathlib.Core.Bool.{not, true}
 use mathlib.Core.List.{List, [], _∷_, _++_, append-assoc}
 use mathlib.Core.Path.{_≡_, refl, sym, ap, ap₂, _∙_}
 use native.Mathlib.Nat.{mul-zero}
@@ -12,8 +12,9 @@ use lib.Seq.{drop-at, take-add}
 use lib.Ieee.{Float, nan, inf, fin, binary64, fits, isNan, toBits, ofBits}
 use lib.Ieee.Bits.{ofBits-toBits, toBits-lt, ofBits-fits, toBits-ofBits, is-true}
 use Rattle.rules.specs.MapRecord.{littleEndian, fromLittleEndian, extentBytes, extentsIn, floatBytes, floatsIn}
+use Rattle.laws.specs.WholeSample.{allFit}
 use Rattle.laws.specs.MapRecord.Words.{Each, IsByte, AreBytes, Is64, Are64, NotNan, NoNan}
-use Rattle.laws.specs.MapRecord.Each.{each-nil, each-tail, each-cons, each-drop}
+use Rattle.laws.specs.MapRecord.Each.{each-nil, each-tail, each-cons, each-drop, both}
 use Rattle.laws.specs.MapRecord.Bytes.{little-endian-length, little-endian-back, little-endian-again, little-endian-below}
 
 -- ---- numbers of k bytes
@@ -131,6 +132,12 @@ floats-back xs rest n e h =
 pub floats-in-64 : (n : ℕ) (bs : List ℕ) → Are64 (floatsIn n bs)
 floats-in-64 n bs =
     rw floats-unpacked (unpacked-each 8 (ofBits binary64) Is64 nan (λ m. is-true (fits binary64 (ofBits binary64 m)) (ofBits-fits binary64 m)) n bs)
+
+-- the same as a test
+pub are-64 : (xs : List Float) → allFit binary64 xs ≡ true → Are64 xs
+unfolding allFit
+are-64 [] t = each-nil Is64 nan
+are-64 (x ∷ xs) t = let b = both (fits binary64 x) (allFit binary64 xs) t in each-cons Is64 nan x xs (b .0) (are-64 xs (b .1))
 
 not-nan : (x : Float) → NotNan x → T (not (isNan x))
 unfolding isNan

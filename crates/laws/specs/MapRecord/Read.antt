@@ -17,10 +17,10 @@ use Rattle.rules.specs.MapRecord.{Stored, fromLittleEndian, field, fieldHere, f
 use Rattle.rules.specs.MapRecord.{rowWidth, rowCount, recordBytes, rowsOffset, rowsIn, frameIn}
 use Rattle.rules.specs.MapRecord.{modelIn, modelFrom, recordOf, recordSize, roomFor, writable, soundOr}
 use Rattle.laws.specs.MapRecord.Words.{IsByte, AreBytes, NotNan, NoNan, Held, first, Sound}
-use Rattle.laws.specs.MapRecord.Each.{each-nil, each-cons, each-drop}
+use Rattle.laws.specs.MapRecord.Each.{each-nil, each-cons, each-drop, both, all-three}
 use Rattle.laws.specs.MapRecord.Bytes.{little-endian-again}
 use Rattle.laws.specs.MapRecord.Numbers.{extents-in-length, extents-again, floats-in-length, floats-in-64, floats-again}
-use Rattle.laws.specs.MapRecord.Fields.{Found, found, both, all-three, field-again}
+use Rattle.laws.specs.MapRecord.Fields.{Found, found, field-again}
 use Rattle.laws.specs.MapRecord.Fields.{sound-given, then-given, then-refused, BrokenAt, step-broken}
 use Rattle.laws.specs.MapRecord.Rows.{RowsRead, rows-read, rows-broken}
 use Rattle.laws.specs.MapRecord.Heads.{rows-are-cells, writing-passes}

@@ -17,9 +17,9 @@ use Rattle.rules.specs.TheGridAndItsBounds.{Model}
 use Rattle.rules.specs.MapRecord.{field, fieldHere, fieldSize, soundOr, floatBytes, floatsIn}
 use Rattle.rules.specs.MapRecord.{rowsBytes, oddsInBounds, endIn, rowsIn, rowsChecked, littleEndian, fromLittleEndian}
 use Rattle.laws.specs.MapRecord.Words.{IsByte, AreBytes, Is64, Are64, NotNan, NoNan}
-use Rattle.laws.specs.MapRecord.Each.{each-nil, each-take, each-drop, each-append, each-left, each-right}
+use Rattle.laws.specs.MapRecord.Each.{each-nil, each-take, each-drop, each-append, each-left, each-right, both}
 use Rattle.laws.specs.MapRecord.Numbers.{float-bytes-length, floats-in-length, floats-back, floats-in-64, floats-again}
-use Rattle.laws.specs.MapRecord.Fields.{field-length, field-contents, field-after, field-found, field-again, Found, found, both}
+use Rattle.laws.specs.MapRecord.Fields.{field-length, field-contents, field-after, field-found, field-again, Found, found}
 use Rattle.laws.specs.MapRecord.Fields.{sound-given, then-given, sound-refused, then-refused}
 use Rattle.laws.specs.MapRecord.Fields.{Reached, reached-next, BrokenAt, broken-here, step-broken}
 

@@ -51,10 +51,13 @@ pub data FieldBegins (bytes : List ℕ) : ℕ → Type 0 where
 
 -- what is known of a record of so many axes: it is as long as its extents say, and its map may be written again
 pub record Sound (axes : ℕ) (bytes : List ℕ) (s : Stored) : Type 0 where
+  -- It has that many extents, and the bytes that they call for.
   pub axes-are : length (s .head .extents) ≡ axes
   pub size-is : length bytes ≡ recordSize (s .head .extents)
+  -- Its head passes every check of writing, its odds too, so that it is written where there is room for as many bytes.
   pub passes : headRefusal (usesOf writing) (s .head) (length (s .odds)) 0 ≡ none
   pub written : (room : ℕ) → length bytes ≤ room → writable (s .head) (s .odds) room ≡ given (length bytes)
+  -- Its floats are values of binary64.
   pub held : Held (s .head) (s .odds)
 
 -- bytes that are a record of so many axes
