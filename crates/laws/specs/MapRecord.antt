@@ -13,24 +13,27 @@ pub mod Read
 pub mod Entries
 pub mod Needs
 use Prim.Native.Nat.{ℕ, _≤_, _<_}
+use mathlib.Core.Bool.{Bool, true, false, cond}
 use mathlib.Core.List.{List, [], _∷_, _++_}
 use mathlib.Core.Logic.{_⊎_, inl, inr}
 use mathlib.Core.Option.{none}
 use mathlib.Core.Path.{_≡_, refl, sym, ap, ap₂, _∙_, subst}
 use native.Mathlib.Omega.{arith}
+use lib.Dec.{eqb}
 use lib.IntN.{pos}
 use lib.ListN.{length, take, drop}
 use lib.Seq.{take-at}
 use lib.Ieee.{Float}
+use borrow.Author.Tests.{eq-eqb, ne-eqb}
 use Rattle.rules.specs.RefusalNumbers.{Refusal, Answer, given, refused, brokenRecord}
 use Rattle.rules.specs.RefusalNumbers.Entries.{headRefusal, usesOf, writing, Outcome, readRecordEntry, writeRecordEntry}
 use Rattle.rules.specs.TheGridAndItsBounds.{Head, Grid, cells}
-use Rattle.rules.specs.MapRecord.{Stored, recordBytes, recordOf, writable}
-use Rattle.laws.specs.MapRecord.Words.{AreBytes, NoNan, Held, IsRecord, IsBroken, mapRead, SameReading}
+use Rattle.rules.specs.MapRecord.{Stored, fromLittleEndian, recordBytes, recordOf, anyRecordOf, writable}
+use Rattle.laws.specs.MapRecord.Words.{AreBytes, NoNan, Held, IsRecord, IsBroken, mapRead, SameReading, AnyAxes}
 use Rattle.laws.specs.MapRecord.Fields.{begins-within}
 use Rattle.laws.specs.MapRecord.Heads.{rows-are-cells, tests-of-writing}
 use Rattle.laws.specs.MapRecord.Back.{record-bytes-length, writable-is, record-back}
-use Rattle.laws.specs.MapRecord.Read.{read-again, read-sound, record-broken}
+use Rattle.laws.specs.MapRecord.Read.{read-again, read-sound, read-axes, record-broken}
 use Rattle.laws.specs.MapRecord.Entries.{reads, read-from, same-reading, wrote-into, writes}
 
 -- ---- written, then read
@@ -112,3 +115,20 @@ record-or-broken axes bytes some-axis = go (recordOf axes bytes) refl
           begins = b .begins;
           within = begins-within bytes (b .offset) (b .begins);
         })
+
+-- "its length, 4 or 6, gives the axes": a record of two axes or of three is the same map to a reader that asks for no number of axes, and that
+-- reader gives no other map.
+pub any-axes : (bytes : List ℕ) (s : Stored) → AnyAxes bytes s
+unfolding anyRecordOf
+any-axes bytes s =
+    record {
+      of-two = λ e. let n = read-axes 2 bytes s e in rw (eq-eqb _ 4 n) e;
+      of-three = λ e. let n = read-axes 3 bytes s e in rw (ne-eqb (fromLittleEndian 2 (drop 1 bytes)) 4 (λ four. omega arith), eq-eqb _ 6 n) e;
+      of-either = back (eqb (fromLittleEndian 2 (drop 1 bytes)) 4) (eqb (fromLittleEndian 2 (drop 1 bytes)) 6);
+    }
+  where
+    back : (x y : Bool) → cond x (recordOf 2 bytes) (cond y (recordOf 3 bytes) (refused (brokenRecord 0))) ≡ given s
+        → (recordOf 2 bytes ≡ given s) ⊎ (recordOf 3 bytes ≡ given s)
+    back true y e = inl e
+    back false true e = inr e
+    back false false e = let z : _≡_ {A = ℕ} 0 1 = cc in absurd (omega arith)

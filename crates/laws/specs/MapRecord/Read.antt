@@ -187,6 +187,10 @@ pub read-sound : (axes : ℕ) (bytes : List ℕ) (s : Stored) → 0 < axes → r
 read-sound axes bytes s some-axis e =
     let p = parts axes bytes s e in subst (λ (x : Stored). Sound axes bytes x) (p .is) (sound-of axes bytes s p some-axis)
 
+-- the extents' field bears the length that the axes call for
+pub read-axes : (axes : ℕ) (bytes : List ℕ) (s : Stored) → recordOf axes bytes ≡ given s → fromLittleEndian 2 (drop 1 bytes) ≡ 2 * axes
+read-axes axes bytes s e = parts axes bytes s e .extents-found .its-length
+
 -- ---- refused
 pub record-broken : (axes : ℕ) (bytes : List ℕ) (r : Refusal) → recordOf axes bytes ≡ refused r → BrokenAt bytes r
 unfolding recordOf modelFrom frameIn

@@ -3,6 +3,7 @@
 use Prim.Native.Nat.{ℕ, _+_, _≤_, _<_}
 use mathlib.Core.Bool.{true}
 use mathlib.Core.List.{List}
+use mathlib.Core.Logic.{_⊎_}
 use mathlib.Core.Option.{none}
 use mathlib.Core.Path.{_≡_}
 use lib.ListN.{length, getD, drop, replicate}
@@ -10,7 +11,7 @@ use lib.Ieee.{Float, nan, binary64, fits}
 use Rattle.rules.specs.RefusalNumbers.{given, refused, brokenRecord}
 use Rattle.rules.specs.RefusalNumbers.Entries.{headRefusal, usesOf, writing, Outcome, readRecordEntry}
 use Rattle.rules.specs.TheGridAndItsBounds.{Head, Grid, cells}
-use Rattle.rules.specs.MapRecord.{Stored, fromLittleEndian, fieldSize, recordOf, recordSize, writable}
+use Rattle.rules.specs.MapRecord.{Stored, fromLittleEndian, fieldSize, recordOf, anyRecordOf, recordSize, writable}
 
 -- a fact of each element of a list, by its place
 abbrev pub Each : {A : Type 0} → (A → Type 0) → A → List A → Type 0
@@ -86,3 +87,9 @@ pub record SameReading (axes : ℕ) (bytes : List ℕ) (g k : Grid) : Type 0 whe
   -- where a map is given into both, answers and grids are the same
   pub maps : (h j : Head) → readRecordEntry axes bytes g .answer ≡ given h → readRecordEntry axes bytes k .answer ≡ given j
       → readRecordEntry axes bytes g ≡ readRecordEntry axes bytes k
+
+-- a reader that asks for no number of axes, beside one that asks for two or for three
+pub record AnyAxes (bytes : List ℕ) (s : Stored) : Type 0 where
+  pub of-two : recordOf 2 bytes ≡ given s → anyRecordOf bytes ≡ given s
+  pub of-three : recordOf 3 bytes ≡ given s → anyRecordOf bytes ≡ given s
+  pub of-either : anyRecordOf bytes ≡ given s → (recordOf 2 bytes ≡ given s) ⊎ (recordOf 3 bytes ≡ given s)
