@@ -29,6 +29,10 @@ axisFrom0To1 = record { current = zeroF; end = oneF; increment = oneF; step = on
 abbrev spaceCell : ℕ → ℕ → List ℤ
 spaceCell x y = pos x ∷ pos y ∷ pos 0 ∷ []
 
+-- 2 by 2, after an occupied mark of frame 2 at (0,0)
+abbrev cloudAt0 : Grid
+cloudAt0 = record { odds = plus 3 4 ∷ zeroF ∷ zeroF ∷ zeroF ∷ []; stamps = 5 ∷ 0 ∷ 0 ∷ 0 ∷ [] }
+
 pub record OriginalAnswers : Type 0 where
   -- of equal deltas the last is primary; the threshold is 0.6666666666666667
   pub last-of-equals :
@@ -60,10 +64,11 @@ pub record OriginalAnswers : Type 0 where
   pub refused-list :
       scanOf (halfF ∷ halfF ∷ plus 3 2 ∷ halfF ∷ nan ∷ halfF ∷ halfF ∷ halfF ∷ []) (1 ∷ 1 ∷ [])
       ≡ record { answer = refused (rayInList 1 2); lent = record { odds = minus 1 2 ∷ plus 3 4 ∷ zeroF ∷ zeroF ∷ []; stamps = 4 ∷ 5 ∷ 0 ∷ 0 ∷ [] } }
-  -- marks by cell: changed, left, and off the grid
+  -- marks by cell: changed, left where the cell is marked occupied, and off the grid
   pub mark-changes :
       markEntry binary64 false (headOf 2 2 2) (cell 1 0) (fresh 2 2)
       ≡ record { answer = given true; lent = record { odds = zeroF ∷ minus 1 2 ∷ zeroF ∷ zeroF ∷ []; stamps = 0 ∷ 4 ∷ 0 ∷ 0 ∷ [] } }
+  pub mark-left : markEntry binary64 false (headOf 2 2 2) (cell 0 0) cloudAt0 ≡ record { answer = given false; lent = cloudAt0 }
   pub mark-off-the-grid :
       markEntry binary64 true (headOf 2 2 2) (pos 0 ∷ negsuc 0 ∷ []) (fresh 2 2) ≡ record { answer = refused (outOfBounds 1 (negsuc 0) 2); lent = fresh 2 2 }
   -- setting clamps; reading answers the odds or nothing; reset makes fresh
@@ -87,6 +92,7 @@ originalAnswers =
       overflowing-beam = refl;
       refused-list = refl;
       mark-changes = refl;
+      mark-left = refl;
       mark-off-the-grid = refl;
       set-clamps = refl;
       reads-odds = refl;
