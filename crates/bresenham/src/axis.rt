@@ -7,6 +7,7 @@ ghost use Rattle.bresenham.specs.Axes.{axis, primary};
 use floats::count_of;
 
 // Where the line is along an axis, where it ends, and the error that decides when it moves along it.
+#[repr(C)]
 pub struct Axis {
     pub current: f64,
     pub end: f64,

@@ -24,6 +24,7 @@ use types::Refusal;
 
 // The cells of a line that are still to come. It goes from the start to the end, whichever way that is, and always yields at least
 // one cell: where both points fall within one step, that cell is the end's.
+#[repr(C)]
 pub struct BresenhamLine2 {
     pub x: Axis,
     pub y: Axis,
@@ -32,6 +33,7 @@ pub struct BresenhamLine2 {
     pub remaining: u64,
 }
 
+#[repr(C)]
 pub struct BresenhamLine3 {
     pub x: Axis,
     pub y: Axis,

@@ -34,6 +34,7 @@ use types::Refusal;
 use types::SampleAnswer2;
 use types::SetAnswer;
 
+#[repr(C)]
 pub struct GridMap2 {
     pub extents: Extents2,
     pub model: Model,

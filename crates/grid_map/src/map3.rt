@@ -34,6 +34,7 @@ use types::Refusal;
 use types::SampleAnswer3;
 use types::SetAnswer;
 
+#[repr(C)]
 pub struct GridMap3 {
     pub extents: Extents3,
     pub model: Model,

@@ -4,6 +4,7 @@ ghost use Prim.Native.Nat.{_≤_};
 ghost use Rattle.rules.specs.MarksAndFrames.{stampOf, highestFrame};
 
 // The number of a sweep. Any number may be handed over; what a sweep cannot have is refused with 9.
+#[repr(C)]
 pub struct Frame(pub u32);
 
 // What a cell bears: the frame of its last mark, and whether that mark was an occupied one.

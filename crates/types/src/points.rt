@@ -1,11 +1,13 @@
 // Places: points and directions in fractional cell coordinates, cells by their indices, and extents, each for two and three axes.
 
 // A position; 1.0 is one cell.
+#[repr(C)]
 pub struct Point2 {
     pub x: f64,
     pub y: f64,
 }
 
+#[repr(C)]
 pub struct Point3 {
     pub x: f64,
     pub y: f64,
@@ -13,11 +15,13 @@ pub struct Point3 {
 }
 
 // A direction, or a gradient in value per cell.
+#[repr(C)]
 pub struct Vector2 {
     pub x: f64,
     pub y: f64,
 }
 
+#[repr(C)]
 pub struct Vector3 {
     pub x: f64,
     pub y: f64,
@@ -25,11 +29,13 @@ pub struct Vector3 {
 }
 
 // A cell's indices, which may be negative or out of range.
+#[repr(C)]
 pub struct Cell2 {
     pub x: i64,
     pub y: i64,
 }
 
+#[repr(C)]
 pub struct Cell3 {
     pub x: i64,
     pub y: i64,
@@ -37,11 +43,13 @@ pub struct Cell3 {
 }
 
 // The number of cells along each axis.
+#[repr(C)]
 pub struct Extents2 {
     pub x: u64,
     pub y: u64,
 }
 
+#[repr(C)]
 pub struct Extents3 {
     pub x: u64,
     pub y: u64,
