@@ -1,0 +1,27 @@
+-- An answer, and a refusal.
+use borrow.Author.Needs.{needs}
+use Rattle.c_types.proofs.answers.set_to_c.Statement.{statement}
+use Rattle.c_types.proofs.answers.set_to_c.Tie as tie
+
+enum-told : tie.Need-enum-told
+enum-told c = search needs
+
+bare-requires : tie.Need-bare-requires
+bare-requires c κs = search needs
+
+enum-known-answer : tie.Need-enum-known-answer
+enum-known-answer c = search needs
+
+refusal-to-c-requires : tie.Need-refusal-to-c-requires
+refusal-to-c-requires c κs = search needs
+
+returns : tie.Need-returns
+returns c = simp (c .bare .ensures, c .before .enum-told .given .1)
+
+returns-2 : tie.Need-returns-2
+returns-2 c = simp (c .refusal-to-c .ensures, c .before .before .answer .given .1)
+
+pub set-to-c-spec : {M : Type 1} → statement M
+set-to-c-spec =
+    tie.close
+    (tie.spec enum-told bare-requires enum-known-answer refusal-to-c-requires returns returns-2)

@@ -1,0 +1,157 @@
+-- Each case of the refusal has its number and values; an index stays what it was on its way through the call.
+use mir.Syntax.{w64}
+use mir.ValLaws.{toZ-ofZ}
+use borrow.Author.Needs.{needs}
+use Rattle.c_types.proofs.refusals.refusal_to_c.Statement.{statement}
+use Rattle.c_types.proofs.refusals.refusal_to_c.Tie as tie
+
+enum-known-refusal : tie.Need-enum-known-refusal
+enum-known-refusal c = search needs
+
+on-grid-requires : tie.Need-on-grid-requires
+on-grid-requires c κs = search needs
+
+enum-told : tie.Need-enum-told
+enum-told c = search needs
+
+bare-requires : tie.Need-bare-requires
+bare-requires c κs = search needs
+
+enum-told-2 : tie.Need-enum-told-2
+enum-told-2 c = search needs
+
+bare-requires-2 : tie.Need-bare-requires-2
+bare-requires-2 c κs = search needs
+
+enum-told-3 : tie.Need-enum-told-3
+enum-told-3 c = search needs
+
+bare-requires-3 : tie.Need-bare-requires-3
+bare-requires-3 c κs = search needs
+
+enum-known-refusal-2 : tie.Need-enum-known-refusal-2
+enum-known-refusal-2 c = search needs
+
+on-grid-requires-2 : tie.Need-on-grid-requires-2
+on-grid-requires-2 c κs = search needs
+
+enum-known-refusal-3 : tie.Need-enum-known-refusal-3
+enum-known-refusal-3 c = search needs
+
+on-grid-requires-3 : tie.Need-on-grid-requires-3
+on-grid-requires-3 c κs = search needs
+
+enum-told-4 : tie.Need-enum-told-4
+enum-told-4 c = search needs
+
+bare-requires-4 : tie.Need-bare-requires-4
+bare-requires-4 c κs = search needs
+
+enum-known-refusal-4 : tie.Need-enum-known-refusal-4
+enum-known-refusal-4 c = search needs
+
+in-list-requires : tie.Need-in-list-requires
+in-list-requires c κs = search needs
+
+enum-told-5 : tie.Need-enum-told-5
+enum-told-5 c = search needs
+
+bare-requires-5 : tie.Need-bare-requires-5
+bare-requires-5 c κs = search needs
+
+enum-told-6 : tie.Need-enum-told-6
+enum-told-6 c = search needs
+
+bare-requires-6 : tie.Need-bare-requires-6
+bare-requires-6 c κs = search needs
+
+enum-known-refusal-5 : tie.Need-enum-known-refusal-5
+enum-known-refusal-5 c = search needs
+
+in-record-requires : tie.Need-in-record-requires
+in-record-requires c κs = search needs
+
+enum-known-refusal-6 : tie.Need-enum-known-refusal-6
+enum-known-refusal-6 c = search needs
+
+in-record-requires-2 : tie.Need-in-record-requires-2
+in-record-requires-2 c κs = search needs
+
+returns : tie.Need-returns
+returns c = simp (c .on-grid .ensures, c .before .before .refusal .given .1)
+
+returns-2 : tie.Need-returns-2
+returns-2 c = simp (c .bare .ensures, c .before .enum-told .given .1)
+
+returns-3 : tie.Need-returns-3
+returns-3 c = simp (c .bare2 .ensures, c .before .enum-told2 .given .1)
+
+returns-4 : tie.Need-returns-4
+returns-4 c = simp (c .bare3 .ensures, c .before .enum-told3 .given .1)
+
+returns-5 : tie.Need-returns-5
+returns-5 c =
+    let index = toZ-ofZ w64 (c .before .before .refusal2 .given .0 .1 .0) (record { sfits = c .before .known-told2 .given .1 .0 .1 }) in
+    simp (index, c .on-grid2 .ensures, c .before .before .refusal2 .given .1)
+
+returns-6 : tie.Need-returns-6
+returns-6 c = simp (c .on-grid3 .ensures, c .before .before .refusal3 .given .1)
+
+returns-7 : tie.Need-returns-7
+returns-7 c = simp (c .bare4 .ensures, c .before .enum-told4 .given .1)
+
+returns-8 : tie.Need-returns-8
+returns-8 c = simp (c .in-list .ensures, c .before .before .refusal4 .given .1)
+
+returns-9 : tie.Need-returns-9
+returns-9 c = simp (c .bare5 .ensures, c .before .enum-told5 .given .1)
+
+returns-10 : tie.Need-returns-10
+returns-10 c = simp (c .bare6 .ensures, c .before .enum-told6 .given .1)
+
+returns-11 : tie.Need-returns-11
+returns-11 c = simp (c .in-record .ensures, c .before .before .refusal5 .given .1)
+
+returns-12 : tie.Need-returns-12
+returns-12 c = simp (c .in-record2 .ensures, c .before .before .refusal6 .given .1)
+
+pub refusal-to-c-spec : {M : Type 1} → statement M
+refusal-to-c-spec =
+    tie.close
+    (tie.spec
+    enum-known-refusal
+    on-grid-requires
+    enum-told
+    bare-requires
+    enum-told-2
+    bare-requires-2
+    enum-told-3
+    bare-requires-3
+    enum-known-refusal-2
+    on-grid-requires-2
+    enum-known-refusal-3
+    on-grid-requires-3
+    enum-told-4
+    bare-requires-4
+    enum-known-refusal-4
+    in-list-requires
+    enum-told-5
+    bare-requires-5
+    enum-told-6
+    bare-requires-6
+    enum-known-refusal-5
+    in-record-requires
+    enum-known-refusal-6
+    in-record-requires-2
+    returns
+    returns-2
+    returns-3
+    returns-4
+    returns-5
+    returns-6
+    returns-7
+    returns-8
+    returns-9
+    returns-10
+    returns-11
+    returns-12)

@@ -1,0 +1,45 @@
+-- A refusal of document 01, its number and its values, as the struct that C sees. Definitions only.
+use Prim.Native.Nat.{ℕ}
+use mathlib.Core.Bool.{cond}
+use mathlib.Core.List.{List, [], _∷_}
+use lib.Dec.{eqb, ltb}
+use lib.IntN.{ℤ, pos, natAbs}
+use Rattle.rules.specs.RefusalNumbers.{Refusal}
+use Rattle.c_types.specs.declared.refusals.CRefusal.{CRefusal}
+
+-- a number without values; 0 where the call was answered
+abbrev pub plain : ℕ → CRefusal
+plain number = record { number = number; values = 0; axis = 0; index = pos 0; extent = 0; place = 0; count = 0; bytes = 0 }
+
+abbrev pub onGrid : ℕ → ℕ → ℕ → ℤ → ℕ → CRefusal
+onGrid number values axis index extent =
+    record { number = number; values = values; axis = axis; index = index; extent = extent; place = 0; count = 0; bytes = 0 }
+
+abbrev pub inList : ℕ → ℕ → CRefusal
+inList place count = record { number = 7; values = 2; axis = 0; index = pos 0; extent = 0; place = place; count = count; bytes = 0 }
+
+abbrev pub inRecord : ℕ → ℕ → CRefusal
+inRecord number bytes = record { number = number; values = 1; axis = 0; index = pos 0; extent = 0; place = 0; count = 0; bytes = bytes }
+
+-- 1 to 6, 8 and 9: "first axis, extent", "first axis, index, extent", "axis", or nothing
+abbrev pub gridValues : ℕ → List ℤ → CRefusal
+gridValues number [] = plain number
+gridValues number (axis ∷ []) = onGrid number 1 (natAbs axis) (pos 0) 0
+gridValues number (axis ∷ extent ∷ []) = onGrid number 2 (natAbs axis) (pos 0) (natAbs extent)
+gridValues number (axis ∷ index ∷ extent ∷ more) = onGrid number 3 (natAbs axis) index (natAbs extent)
+
+-- 7: "in a list: beam's place, from 0, and count so far"
+abbrev pub listValues : List ℤ → CRefusal
+listValues [] = plain 7
+listValues (place ∷ []) = plain 7
+listValues (place ∷ count ∷ more) = inList (natAbs place) (natAbs count)
+
+-- 10 and 11: "offset of the field", "bytes needed"
+abbrev pub recordValues : ℕ → List ℤ → CRefusal
+recordValues number [] = plain number
+recordValues number (bytes ∷ more) = inRecord number (natAbs bytes)
+
+abbrev pub cRefusal : Refusal → CRefusal
+cRefusal r =
+    cond (eqb (r .number) 7) (listValues (r .values))
+    (cond (ltb 9 (r .number)) (recordValues (r .number) (r .values)) (gridValues (r .number) (r .values)))

@@ -1,0 +1,104 @@
+// The answers that are the same for two and three axes. Where a call is refused, what was asked for is 0.
+ghost use mathlib.Core.Path.{_≡_};
+ghost use Rattle.types.specs.Answers.{markAnswer, countAnswer, setAnswer, cellRead, oddsAnswer};
+ghost use Rattle.c_types.specs.Answers.{cMark, cCount, cSet, cRead, cOdds};
+use crate::refusals::CRefusal;
+use crate::refusals::bare;
+use crate::refusals::refusal_to_c;
+use types::CellRead;
+use types::CountAnswer;
+use types::MarkAnswer;
+use types::OddsAnswer;
+use types::SetAnswer;
+
+// Whether a mark changed the cell.
+#[repr(C)]
+pub struct CMarkAnswer {
+    pub refusal: CRefusal,
+    pub changed: bool,
+}
+
+// How many marks changed a cell, or how many bytes were written.
+#[repr(C)]
+pub struct CCountAnswer {
+    pub refusal: CRefusal,
+    pub count: u64,
+}
+
+// A cell's odds; none were found off the grid.
+#[repr(C)]
+pub struct COddsAnswer {
+    pub refusal: CRefusal,
+    pub found: bool,
+    pub odds: f64,
+}
+
+pub fn mark_to_c(answer: MarkAnswer) -> CMarkAnswer
+    ensures { λ r. ⌜ r ≡ cMark (markAnswer answer) ⌝ }
+{
+    match answer {
+        MarkAnswer::Changed(changed) => CMarkAnswer {
+            refusal: bare(0),
+            changed,
+        },
+        MarkAnswer::Refused(r) => CMarkAnswer {
+            refusal: refusal_to_c(r),
+            changed: false,
+        },
+    }
+}
+
+pub fn count_to_c(answer: CountAnswer) -> CCountAnswer
+    ensures { λ r. ⌜ r ≡ cCount (countAnswer answer) ⌝ }
+{
+    match answer {
+        CountAnswer::Count(count) => CCountAnswer {
+            refusal: bare(0),
+            count,
+        },
+        CountAnswer::Refused(r) => CCountAnswer {
+            refusal: refusal_to_c(r),
+            count: 0,
+        },
+    }
+}
+
+pub fn set_to_c(answer: SetAnswer) -> CRefusal
+    ensures { λ r. ⌜ r ≡ cSet (setAnswer answer) ⌝ }
+{
+    match answer {
+        SetAnswer::Done => bare(0),
+        SetAnswer::Refused(r) => refusal_to_c(r),
+    }
+}
+
+// What was read of a cell, where the call was answered.
+fn read_to_c(read: CellRead) -> COddsAnswer
+    ensures { λ r. ⌜ r ≡ cRead (cellRead read) ⌝ }
+{
+    match read {
+        CellRead::Odds(odds) => COddsAnswer {
+            refusal: bare(0),
+            found: true,
+            odds,
+        },
+        CellRead::Nothing => COddsAnswer {
+            refusal: bare(0),
+            found: false,
+            odds: 0.0,
+        },
+    }
+}
+
+pub fn odds_to_c(answer: OddsAnswer) -> COddsAnswer
+    ensures { λ r. ⌜ r ≡ cOdds (oddsAnswer answer) ⌝ }
+{
+    match answer {
+        OddsAnswer::Read(read) => read_to_c(read),
+        OddsAnswer::Refused(r) => COddsAnswer {
+            refusal: refusal_to_c(r),
+            found: false,
+            odds: 0.0,
+        },
+    }
+}

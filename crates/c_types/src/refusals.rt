@@ -1,0 +1,112 @@
+// A refusal as C sees it: document 01's number, and each of the table's values under a name of its own. Axes, extents, places and
+// counts are never negative and stay unsigned, so every refusal has its struct, whatever its values.
+ghost use mathlib.Core.Path.{_≡_};
+ghost use Rattle.types.specs.Refusals.{refusalOf};
+ghost use Rattle.c_types.specs.Refusals.{plain, onGrid, inList, inRecord, cRefusal};
+use types::Refusal;
+
+#[repr(C)]
+pub struct CRefusal {
+    // 0 where the call was answered.
+    pub number: u32,
+    // How many of the values below the refusal gives; the others are 0.
+    pub values: u32,
+    // 1, 5 and 6.
+    pub axis: u64,
+    // 5.
+    pub index: i64,
+    // 1 and 5.
+    pub extent: u64,
+    // 7 in a list: the refused beam's place, from 0, and the count of the beams before it.
+    pub place: u64,
+    pub count: u64,
+    // 10: the offset of the broken field. 11: the bytes needed.
+    pub bytes: u64,
+}
+
+// A number without values; 0 is none of document 01's, and stands for an answer.
+pub fn bare(number: u32) -> CRefusal
+    ensures { λ r. ⌜ r ≡ plain number ⌝ }
+{
+    CRefusal {
+        number,
+        values: 0,
+        axis: 0,
+        index: 0,
+        extent: 0,
+        place: 0,
+        count: 0,
+        bytes: 0,
+    }
+}
+
+// A refusal of the grid or of a place on it.
+fn on_grid(number: u32, values: u32, axis: u64, index: i64, extent: u64) -> CRefusal
+    ensures { λ r. ⌜ r ≡ onGrid number values axis index extent ⌝ }
+{
+    CRefusal {
+        number,
+        values,
+        axis,
+        index,
+        extent,
+        place: 0,
+        count: 0,
+        bytes: 0,
+    }
+}
+
+// A refusal of one beam in a list.
+fn in_list(place: u64, count: u64) -> CRefusal
+    ensures { λ r. ⌜ r ≡ inList place count ⌝ }
+{
+    CRefusal {
+        number: 7,
+        values: 2,
+        axis: 0,
+        index: 0,
+        extent: 0,
+        place,
+        count,
+        bytes: 0,
+    }
+}
+
+// A refusal of a map record.
+fn in_record(number: u32, bytes: u64) -> CRefusal
+    ensures { λ r. ⌜ r ≡ inRecord number bytes ⌝ }
+{
+    CRefusal {
+        number,
+        values: 1,
+        axis: 0,
+        index: 0,
+        extent: 0,
+        place: 0,
+        count: 0,
+        bytes,
+    }
+}
+
+pub fn refusal_to_c(refusal: Refusal) -> CRefusal
+    ensures { λ r. ⌜ r ≡ cRefusal (refusalOf refusal) ⌝ }
+{
+    match refusal {
+        Refusal::DimensionTooSmall { axis, extent } => on_grid(1, 2, axis, 0, extent),
+        Refusal::CapacityOverflow => bare(2),
+        Refusal::Model => bare(3),
+        Refusal::Buffer => bare(4),
+        Refusal::OutOfBounds {
+            axis,
+            index,
+            extent,
+        } => on_grid(5, 3, axis, index, extent),
+        Refusal::NonFiniteCoordinate { axis } => on_grid(6, 1, axis, 0, 0),
+        Refusal::Ray => bare(7),
+        Refusal::RayInList { place, count } => in_list(place, count),
+        Refusal::Beams => bare(8),
+        Refusal::Frame => bare(9),
+        Refusal::Record { offset } => in_record(10, offset),
+        Refusal::Room { needed } => in_record(11, needed),
+    }
+}
