@@ -1,0 +1,7 @@
+// The C face: every entry of the library as a function with the prefix `tembuzar_`, and nothing but conversions. `include/tembuzar.h`
+// declares them and says what a caller owes: lists that are there, as long as said, and that do not overlap. Everything else is answered.
+mod lines;
+mod map2;
+mod map3;
+mod sweep2;
+mod sweep3;
