@@ -1,0 +1,383 @@
+/*
+ * tembuzar.h: an occupancy grid for sweeps of beams, in two and three axes.
+ *
+ * A grid has a cell for each place, and each cell has odds: how much speaks for something there (above 0) or
+ * for clear air (below 0), as log-odds. A sweep is a list of beams. Each beam leaves a vote for clear air in
+ * the cells that it crosses, and one for a return in the cell where it ended, if it ended in a return. Within a
+ * sweep a cell takes at most one vote of each kind, and a return takes a clear vote of the same sweep back.
+ *
+ * The code behind each function is proved to answer by one rule, for every input that the rules below allow.
+ * docs/ENTRIES.md names the rule of each.
+ *
+ * WHAT THE CALLER HOLDS
+ *
+ *   A map is a head by value (tembuzar_map2, tembuzar_map3) and two lists that the caller owns and lends to each
+ *   call: odds, a double for each cell, and stamps, a uint32_t for each cell. Axis x is the fastest: the cell
+ *   (x, y, z) stands at x + extents.x * (y + extents.y * z). The library keeps nothing between calls, allocates
+ *   nothing, and prints nothing; two threads may call it at once on different lists.
+ *
+ * WHAT THE CALLER OWES
+ *
+ *   1. A list is a pointer to its first element and the number of its elements. The elements are there, aligned
+ *      as C aligns their type, and not touched by another thread during the call. They are set, except that new and
+ *      reset take lists that are not. Where the number is 0, the pointer may be NULL.
+ *   2. Where a call takes several lists, those that it may change (those not const) overlap no other of its lists.
+ *   3. A bool is true or false.
+ *
+ *   Nothing else. A list of the wrong length, extents or a model out of bounds, a cell off the grid, NaN and
+ *   infinity, a head that no function gave: each is answered, and no call crashes or does not return.
+ *   (The types fix how many extents there are, so a wrong number of them does not compile.)
+ *
+ * WHAT IS ANSWERED
+ *
+ *   Every answer holds a tembuzar_refusal. Its number is 0 where the call was answered. Else it is one of the
+ *   numbers below, what was asked for is 0 throughout, and the lists lent to the call are as they were; with one
+ *   exception: a list of beams refused with 7 at one beam keeps the votes of the beams before it.
+ *   A call that several refusals fit gives the first in the order that the call's comment lists.
+ *
+ *   Points are in cells: the cell (0, 0) goes from 0.0 up to 1.0 on both axes. Floats are IEEE 754 doubles.
+ */
+#ifndef TEMBUZAR_H
+#define TEMBUZAR_H
+
+#include <stdbool.h>
+#include <stddef.h>
+#include <stdint.h>
+
+#ifdef __cplusplus
+extern "C" {
+#endif
+
+/* The bounds of a map: 2 to 4,096 cells along each axis, at most 16,777,216 in all. */
+#define TEMBUZAR_SHORTEST_AXIS 2
+#define TEMBUZAR_LONGEST_AXIS 4096
+#define TEMBUZAR_MOST_CELLS 16777216
+
+/* The highest number of a sweep. After it, frames start again at 1. */
+#define TEMBUZAR_HIGHEST_FRAME UINT32_C(2147483647)
+
+/* ---- Refusals ---- */
+
+enum tembuzar_number {
+    TEMBUZAR_ANSWERED = 0,
+    TEMBUZAR_DIMENSION_TOO_SMALL = 1,   /* an extent below 2. Gives axis (the first such), extent */
+    TEMBUZAR_CAPACITY_OVERFLOW = 2,     /* an extent above 4,096, or too many cells */
+    TEMBUZAR_MODEL = 3,                 /* the model is out of its bounds: see tembuzar_model */
+    TEMBUZAR_BUFFER = 4,                /* odds or stamps are not one for each cell */
+    TEMBUZAR_OUT_OF_BOUNDS = 5,         /* a cell or a point is off the grid. Gives axis (the first), index, extent */
+    TEMBUZAR_NON_FINITE_COORDINATE = 6, /* a point has NaN or infinity. Gives axis (the first) */
+    TEMBUZAR_RAY = 7,                   /* a beam or a line cannot be plotted. In a list, gives place and count */
+    TEMBUZAR_BEAMS = 8,                 /* the flat list is no list of beams */
+    TEMBUZAR_FRAME = 9,                 /* the head's frame is 0 or above TEMBUZAR_HIGHEST_FRAME */
+    TEMBUZAR_RECORD = 10,               /* a map record is broken. Gives bytes: the offset of the field */
+    TEMBUZAR_ROOM = 11                  /* the output is shorter than the record. Gives bytes: how many it needs */
+};
+
+/* Why a call was refused. A value that the number does not give is 0. */
+typedef struct tembuzar_refusal {
+    uint32_t number; /* 0: the call was answered. 1 to 11: enum tembuzar_number */
+    uint32_t values; /* how many values the refusal gives, 0 to 3 */
+    uint64_t axis;   /* 1, 5, 6: 0 for x, 1 for y, 2 for z */
+    int64_t index;   /* 5: the cell's index on that axis; of a point, its coordinate cut to a whole number */
+    uint64_t extent; /* 1, 5: the extent of that axis */
+    uint64_t place;  /* 7 in a list: the place of the refused beam, from 0 */
+    uint64_t count;  /* 7 in a list: the count of the beams before it */
+    uint64_t bytes;  /* 10, 11 */
+} tembuzar_refusal;
+
+/* ---- Maps ---- */
+
+/* What one vote of each kind adds to a cell's odds, and where a cell saturates: its odds stay within -ceiling and
+ * ceiling. occupied > 0, free < 0, ceiling > 0, all finite and none above 1,048,576 in size; else 3. */
+typedef struct tembuzar_model {
+    double occupied;
+    double free;
+    double ceiling;
+} tembuzar_model;
+
+/* What a line keeps of one axis. */
+typedef struct tembuzar_axis {
+    double current;
+    double end;
+    double increment;
+    double step;
+    double error;
+} tembuzar_axis;
+
+/* Cells along each axis. */
+typedef struct tembuzar_extents2 {
+    uint64_t x, y;
+} tembuzar_extents2;
+
+/* A map's head. frame is the number of the sweep that is open. */
+typedef struct tembuzar_map2 {
+    tembuzar_extents2 extents;
+    tembuzar_model model;
+    uint32_t frame;
+} tembuzar_map2;
+
+/* A position in cells. */
+typedef struct tembuzar_point2 {
+    double x, y;
+} tembuzar_point2;
+
+/* A cell by its indices; any number may stand in it. */
+typedef struct tembuzar_cell2 {
+    int64_t x, y;
+} tembuzar_cell2;
+
+/* A beam: where it started, where it stopped, and whether that was a return (else it ran out). */
+typedef struct tembuzar_beam2 {
+    tembuzar_point2 origin;
+    tembuzar_point2 endpoint;
+    bool hit;
+} tembuzar_beam2;
+
+/* Interpolated odds, and how they change per cell along each axis. */
+typedef struct tembuzar_vector2 {
+    double x, y;
+} tembuzar_vector2;
+
+typedef struct tembuzar_sample2 {
+    double value;
+    tembuzar_vector2 gradient;
+} tembuzar_sample2;
+
+/* A line whose cells are taken one by one, by tembuzar_step2. Its fields are the plotter's own. */
+typedef struct tembuzar_line2 {
+    tembuzar_axis x, y;
+    uint64_t primary;
+    double threshold;
+    uint64_t remaining;
+} tembuzar_line2;
+
+/* The same for three axes. */
+typedef struct tembuzar_extents3 {
+    uint64_t x, y, z;
+} tembuzar_extents3;
+
+typedef struct tembuzar_map3 {
+    tembuzar_extents3 extents;
+    tembuzar_model model;
+    uint32_t frame;
+} tembuzar_map3;
+
+typedef struct tembuzar_point3 {
+    double x, y, z;
+} tembuzar_point3;
+
+typedef struct tembuzar_cell3 {
+    int64_t x, y, z;
+} tembuzar_cell3;
+
+typedef struct tembuzar_beam3 {
+    tembuzar_point3 origin;
+    tembuzar_point3 endpoint;
+    bool hit;
+} tembuzar_beam3;
+
+typedef struct tembuzar_vector3 {
+    double x, y, z;
+} tembuzar_vector3;
+
+typedef struct tembuzar_sample3 {
+    double value;
+    tembuzar_vector3 gradient;
+} tembuzar_sample3;
+
+typedef struct tembuzar_line3 {
+    tembuzar_axis x, y, z;
+    uint64_t primary;
+    double threshold;
+    uint64_t remaining;
+} tembuzar_line3;
+
+/* ---- Answers ---- */
+
+/* Whether a mark changed its cell. */
+typedef struct tembuzar_mark_answer {
+    tembuzar_refusal refusal;
+    bool changed;
+} tembuzar_mark_answer;
+
+/* How many marks changed a cell. */
+typedef struct tembuzar_count_answer {
+    tembuzar_refusal refusal;
+    uint64_t count;
+} tembuzar_count_answer;
+
+/* One cell's odds; not found off the grid, which is no refusal. */
+typedef struct tembuzar_odds_answer {
+    tembuzar_refusal refusal;
+    bool found;
+    double odds;
+} tembuzar_odds_answer;
+
+typedef struct tembuzar_map_answer2 {
+    tembuzar_refusal refusal;
+    tembuzar_map2 map;
+} tembuzar_map_answer2;
+
+typedef struct tembuzar_cell_answer2 {
+    tembuzar_refusal refusal;
+    tembuzar_cell2 cell;
+} tembuzar_cell_answer2;
+
+/* A sample; not found unless every coordinate is in 0 to extent - 1, which is no refusal. */
+typedef struct tembuzar_sample_answer2 {
+    tembuzar_refusal refusal;
+    bool found;
+    tembuzar_sample2 sample;
+} tembuzar_sample_answer2;
+
+typedef struct tembuzar_line_answer2 {
+    tembuzar_refusal refusal;
+    tembuzar_line2 line;
+} tembuzar_line_answer2;
+
+/* A cell of a line, and the line after it; or not found, and the line as it was. */
+typedef struct tembuzar_step_answer2 {
+    bool found;
+    tembuzar_cell2 cell;
+    tembuzar_line2 line;
+} tembuzar_step_answer2;
+
+typedef struct tembuzar_map_answer3 {
+    tembuzar_refusal refusal;
+    tembuzar_map3 map;
+} tembuzar_map_answer3;
+
+typedef struct tembuzar_cell_answer3 {
+    tembuzar_refusal refusal;
+    tembuzar_cell3 cell;
+} tembuzar_cell_answer3;
+
+typedef struct tembuzar_sample_answer3 {
+    tembuzar_refusal refusal;
+    bool found;
+    tembuzar_sample3 sample;
+} tembuzar_sample_answer3;
+
+typedef struct tembuzar_line_answer3 {
+    tembuzar_refusal refusal;
+    tembuzar_line3 line;
+} tembuzar_line_answer3;
+
+typedef struct tembuzar_step_answer3 {
+    bool found;
+    tembuzar_cell3 cell;
+    tembuzar_line3 line;
+} tembuzar_step_answer3;
+
+/* ---- Functions, two axes ---- */
+
+/* A fresh map of these extents and this model. Answers its head, at frame 1; odds become +0.0 and stamps 0.
+ * Refuses with 1, 2, 3, 4. */
+tembuzar_map_answer2 tembuzar_new2(tembuzar_extents2 extents, tembuzar_model model,
+                                   double *odds, size_t odds_count, uint32_t *stamps, size_t stamps_count);
+
+/* Every cell back to unknown: odds +0.0, stamps 0, frame 1. Extents and model are kept. Refuses with 1, 2, 4. */
+tembuzar_map_answer2 tembuzar_reset2(tembuzar_map2 map,
+                                     double *odds, size_t odds_count, uint32_t *stamps, size_t stamps_count);
+
+/* Opens a sweep: the head with the next frame, which the calls of this sweep take. Any frame may stand in map;
+ * from TEMBUZAR_HIGHEST_FRAME on, stamps become 0 and frames start again at 1. Refuses with 1, 2, 4. */
+tembuzar_map_answer2 tembuzar_begin_scan2(tembuzar_map2 map, uint32_t *stamps, size_t stamps_count);
+
+/* A list of beams, in order. numbers has 4 for each beam, origin x, y, then endpoint x, y;
+ * hits has a byte for each beam, 1 for a return and 0 for a beam that ran out. The count is of the whole list.
+ * Refuses with 1, 2, 3, 4, 9, 8, 7; with 7 at one beam, the beams before it stay, and the refusal gives the
+ * beam's place and their count. 8: numbers are not 4 for each byte of hits, or a byte is neither 0 nor 1. */
+tembuzar_count_answer tembuzar_update_scan2(tembuzar_map2 map,
+                                            double *odds, size_t odds_count, uint32_t *stamps, size_t stamps_count,
+                                            const double *numbers, size_t numbers_count,
+                                            const uint8_t *hits, size_t hits_count);
+
+/* One beam. The part of it that lies on the grid is walked cell by cell; all but the last are marked free, and the
+ * last is marked occupied if the beam is a hit and ended on the grid, else free. The count is of the marks that
+ * changed a cell; 0 where the beam misses the grid. Refuses with 1, 2, 3, 4, 9, 7. 7: a coordinate is not finite, or
+ * the beam is on the grid and its endpoint is too far from its origin for a double. */
+tembuzar_count_answer tembuzar_update_ray2(tembuzar_map2 map,
+                                           double *odds, size_t odds_count, uint32_t *stamps, size_t stamps_count,
+                                           tembuzar_beam2 beam);
+
+/* One vote for clear air in one cell, unless the cell bears a vote of this sweep. Refuses with 1, 2, 3, 4, 9, 5. */
+tembuzar_mark_answer tembuzar_mark_free2(tembuzar_map2 map,
+                                         double *odds, size_t odds_count, uint32_t *stamps, size_t stamps_count,
+                                         tembuzar_cell2 cell);
+
+/* One vote for a return in one cell, unless the cell bears one of this sweep; a clear vote of this sweep is taken
+ * back. Refuses with 1, 2, 3, 4, 9, 5. */
+tembuzar_mark_answer tembuzar_mark_occupied2(tembuzar_map2 map,
+                                             double *odds, size_t odds_count, uint32_t *stamps, size_t stamps_count,
+                                             tembuzar_cell2 cell);
+
+/* Puts odds into one cell, brought within the floor and the ceiling (NaN stays). number is 0 where it was done.
+ * Refuses with 1, 2, 3, 4, 5. */
+tembuzar_refusal tembuzar_set_log_odds2(tembuzar_map2 map, double *odds, size_t odds_count,
+                                        tembuzar_cell2 cell, double value);
+
+/* One cell's odds. Refuses with 1, 2, 4. */
+tembuzar_odds_answer tembuzar_log_odds_at2(tembuzar_map2 map, const double *odds, size_t odds_count,
+                                           tembuzar_cell2 cell);
+
+/* The odds between the cells, interpolated, and their gradient. Refuses with 1, 2, 4. */
+tembuzar_sample_answer2 tembuzar_sample_log_odds2(tembuzar_map2 map, const double *odds, size_t odds_count,
+                                                  tembuzar_point2 point);
+
+/* The cell that contains a point. Refuses with 1, 2, and then axis by axis with 6 or 5. */
+tembuzar_cell_answer2 tembuzar_cell_containing2(tembuzar_map2 map, tembuzar_point2 point);
+
+/* A line between two points. Refuses with 7 where end - start is not finite on some axis. */
+tembuzar_line_answer2 tembuzar_plotter2(tembuzar_point2 start, tembuzar_point2 end);
+
+/* The next cell of a line: call it with each answer's line until it finds none. */
+tembuzar_step_answer2 tembuzar_step2(tembuzar_line2 line);
+
+/* ---- Functions, three axes: as for two; a beam of a list has 6 numbers, origin x, y, z, then endpoint x, y, z ---- */
+
+tembuzar_map_answer3 tembuzar_new3(tembuzar_extents3 extents, tembuzar_model model,
+                                   double *odds, size_t odds_count, uint32_t *stamps, size_t stamps_count);
+
+tembuzar_map_answer3 tembuzar_reset3(tembuzar_map3 map,
+                                     double *odds, size_t odds_count, uint32_t *stamps, size_t stamps_count);
+
+tembuzar_map_answer3 tembuzar_begin_scan3(tembuzar_map3 map, uint32_t *stamps, size_t stamps_count);
+
+tembuzar_count_answer tembuzar_update_scan3(tembuzar_map3 map,
+                                            double *odds, size_t odds_count, uint32_t *stamps, size_t stamps_count,
+                                            const double *numbers, size_t numbers_count,
+                                            const uint8_t *hits, size_t hits_count);
+
+tembuzar_count_answer tembuzar_update_ray3(tembuzar_map3 map,
+                                           double *odds, size_t odds_count, uint32_t *stamps, size_t stamps_count,
+                                           tembuzar_beam3 beam);
+
+tembuzar_mark_answer tembuzar_mark_free3(tembuzar_map3 map,
+                                         double *odds, size_t odds_count, uint32_t *stamps, size_t stamps_count,
+                                         tembuzar_cell3 cell);
+
+tembuzar_mark_answer tembuzar_mark_occupied3(tembuzar_map3 map,
+                                             double *odds, size_t odds_count, uint32_t *stamps, size_t stamps_count,
+                                             tembuzar_cell3 cell);
+
+tembuzar_refusal tembuzar_set_log_odds3(tembuzar_map3 map, double *odds, size_t odds_count,
+                                        tembuzar_cell3 cell, double value);
+
+tembuzar_odds_answer tembuzar_log_odds_at3(tembuzar_map3 map, const double *odds, size_t odds_count,
+                                           tembuzar_cell3 cell);
+
+tembuzar_sample_answer3 tembuzar_sample_log_odds3(tembuzar_map3 map, const double *odds, size_t odds_count,
+                                                  tembuzar_point3 point);
+
+tembuzar_cell_answer3 tembuzar_cell_containing3(tembuzar_map3 map, tembuzar_point3 point);
+
+tembuzar_line_answer3 tembuzar_plotter3(tembuzar_point3 start, tembuzar_point3 end);
+
+tembuzar_step_answer3 tembuzar_step3(tembuzar_line3 line);
+
+#ifdef __cplusplus
+}
+#endif
+
+#endif
