@@ -1,0 +1,2 @@
+-- What a sweep leaves in a head lent by reference.
+pub mod LentHead

@@ -1,0 +1,7 @@
+// The two forms of the original that the other crates replace by values: a head lent by reference, and a lent slice of beam structs.
+// Each is a thin function over the entries by value, proved by hand.
+mod head2;
+mod head3;
+
+pub use head2::begin_scan2;
+pub use head3::begin_scan3;
