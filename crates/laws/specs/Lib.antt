@@ -10,5 +10,6 @@ pub mod ModelBounds
 pub mod Places
 pub mod LineSteps
 pub mod MarkLists
+pub mod FlatList
 pub mod Room
 pub mod Literals

@@ -1,5 +1,5 @@
--- Demand 3 said of the entries: what `begin_scan` and then `update_scan` answer and leave, in a sweep that meets the premises, is the sweep that
--- the theorem speaks of. So its conclusions are about the lent lists after `update_scan`. Assumes nothing.
+-- Demand 3 said of the entries: what `begin_scan` and then a slice of beams, or `update_scan`, answer and leave, in a sweep that meets the premises,
+-- is the sweep that the theorem speaks of. So its conclusions are about the lent lists afterwards. Assumes nothing.
 use Prim.Native.Nat.{ℕ, suc, _+_, _≤_, _<_}
 use mathlib.Core.Bool.{Bool, true, false, cond, not, _&&_}
 use mathlib.Core.List.{List, [], _∷_}
@@ -12,16 +12,13 @@ use lib.Ieee.Fits.{and-l, and-r}
 use lib.ListN.{length, length-replicate, replicate}
 use borrow.Author.Tests.{le-ltb, lt-ltb, le-leb, leb-false}
 use Rattle.rules.specs.RefusalNumbers.{Refusal, given}
-use Rattle.rules.specs.RefusalNumbers.Entries.{firstTooSmall, extentsRefusal, headRefusal, Uses, Outcome, ofIntegrated, usesOf, begin-scan, beams, beginScanEntry, updateScanEntry}
+use Rattle.rules.specs.RefusalNumbers.Entries.{firstTooSmall, extentsRefusal, headRefusal, Uses, Outcome, ofIntegrated, usesOf, begin-scan, beams, beginScanEntry, updateScanEntry, updateBeamsEntry}
 use Rattle.rules.specs.TheGridAndItsBounds.{Model, Head, Grid, leastExtent, allAtLeast, fitsCapacity, extentsInBounds, bounded, onePerCell}
 use Rattle.rules.specs.MarksAndFrames.{highestFrame, openFrame, openedFrame, openedStamps}
-use Rattle.rules.specs.OneBeam.{Integrated, flatShape, beamsOf}
+use Rattle.rules.specs.OneBeam.{Beam, flatShape, beamsOf}
 use Rattle.laws.specs.DemandThree.{Sweep, Settled, frameOpened, gridOpened, sweep}
 use Rattle.laws.specs.DemandThree.Proof.{demand-three}
-
-is-true : (b : Bool) → T b → b ≡ true
-is-true true t = refl
-is-true false t = absurd t
+use Rattle.laws.specs.FlatList.{is-true, flat-as-structs}
 
 -- the head of a map with its sweep opened
 abbrev pub headOpened : Head → Head
@@ -56,17 +53,16 @@ opened-length k stamps = go (leb highestFrame k)
     go true = length-replicate (length stamps) 0
     go false = refl
 
-module _ (f : Format) (h : Head) (g : Grid) (numbers : List Float) (hits : List ℕ) (s : Sweep f h g (beamsOf (length (h .extents)) numbers hits)) where
+module _ (f : Format) (h : Head) (g : Grid) (bs : List Beam) (s : Sweep f h g bs) where
   -- `begin_scan` opens the sweep
   pub begins : beginScanEntry h (g .stamps) ≡ record { answer = given (headOpened h); lent = gridOpened h g .stamps }
   unfolding beginScanEntry headRefusal
   begins = rw (extents-pass (h .extents) (s .extents), is-true (onePerCell (h .extents) (length (g .stamps))) (s .stamps-per-cell)) refl
 
-  -- `update_scan` then leaves what the theorem speaks of
-  pub scans : T (flatShape (length (h .extents)) numbers hits)
-      → updateScanEntry f (headOpened h) numbers hits (gridOpened h g) ≡ ofIntegrated (sweep f h g (beamsOf (length (h .extents)) numbers hits))
-  unfolding updateScanEntry headRefusal
-  scans t =
+  -- a slice of beams then leaves what the theorem speaks of
+  pub integrates : updateBeamsEntry f (headOpened h) bs (gridOpened h g) ≡ ofIntegrated (sweep f h g bs)
+  unfolding updateBeamsEntry headRefusal
+  integrates =
       rw (
         extents-pass (h .extents) (s .extents),
         is-true (bounded (h .model)) (s .model),
@@ -74,11 +70,21 @@ module _ (f : Format) (h : Head) (g : Grid) (numbers : List Float) (hits : List 
         opened-length (h .frame) (g .stamps),
         is-true (onePerCell (h .extents) (length (g .stamps))) (s .stamps-per-cell),
         opened-open (h .frame),
-        is-true (flatShape (length (h .extents)) numbers hits) t,
       )
       refl
 
   -- so whatever meets its contract leaves lists of which demand 3 holds
+  pub settles-slice : (out : Outcome ℕ Grid) → out ≡ updateBeamsEntry f (headOpened h) bs (gridOpened h g)
+      → (out .lent ≡ sweep f h g bs .grid) × Settled f h g bs
+  settles-slice out e = (ap (λ (o : Outcome ℕ Grid). o .lent) (e ∙ integrates), demand-three f h g bs s)
+
+-- the same of `update_scan`, whose flat list is those beams
+module _ (f : Format) (h : Head) (g : Grid) (numbers : List Float) (hits : List ℕ) (s : Sweep f h g (beamsOf (length (h .extents)) numbers hits)) where
+  pub scans : T (flatShape (length (h .extents)) numbers hits)
+      → updateScanEntry f (headOpened h) numbers hits (gridOpened h g) ≡ ofIntegrated (sweep f h g (beamsOf (length (h .extents)) numbers hits))
+  scans t = flat-as-structs f (headOpened h) numbers hits (gridOpened h g) t ∙ integrates f h g (beamsOf (length (h .extents)) numbers hits) s
+
   pub settles : T (flatShape (length (h .extents)) numbers hits) → (out : Outcome ℕ Grid) → out ≡ updateScanEntry f (headOpened h) numbers hits (gridOpened h g)
       → (out .lent ≡ sweep f h g (beamsOf (length (h .extents)) numbers hits) .grid) × Settled f h g (beamsOf (length (h .extents)) numbers hits)
-  settles t out e = (ap (λ (o : Outcome ℕ Grid). o .lent) (e ∙ scans t), demand-three f h g (beamsOf (length (h .extents)) numbers hits) s)
+  settles t out e =
+      settles-slice f h g (beamsOf (length (h .extents)) numbers hits) s out (e ∙ flat-as-structs f (headOpened h) numbers hits (gridOpened h g) t)

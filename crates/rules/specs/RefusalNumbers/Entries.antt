@@ -131,6 +131,12 @@ updateScanEntry f h numbers hits g =
     (orElse (headRefusal (usesOf beams) h (length (g .odds)) (length (g .stamps))) (unlessHolds true (flatShape n numbers hits) badBeams)) g
     (ofIntegrated (integrated f (h .extents) (h .model) (h .frame) (beamsOf n numbers hits) g))
 
+-- the same for "a lent slice of beam structs": it has no shape to try, so refusal 8 does not occur
+unfoldable pub updateBeamsEntry : Format → Head → List Beam → Grid → Outcome ℕ Grid
+updateBeamsEntry f h bs g =
+    unlessRefused (headRefusal (usesOf beams) h (length (g .odds)) (length (g .stamps))) g
+    (ofIntegrated (integrated f (h .extents) (h .model) (h .frame) bs g))
+
 -- `set_log_odds`
 abbrev pub setAnswer : Head → Float → List Float → Answer ℕ → Outcome (Unit {0}) (List Float)
 setAnswer h x odds (refused r) = record { answer = refused r; lent = odds }
