@@ -1,3 +1,4 @@
 pub mod Applying
 pub mod Beaming
+pub mod InOrder
 pub mod Walking
