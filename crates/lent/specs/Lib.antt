@@ -1,2 +1,3 @@
--- What a sweep leaves in a head lent by reference.
+-- What a sweep leaves in a head lent by reference, and the beams of a lent slice.
 pub mod LentHead
+pub mod LentBeams
