@@ -1,0 +1,123 @@
+/*
+ * Every function of tembuzar.h once, in two axes and in three, each with what it is expected to answer in brackets. The numbers in a
+ * call differ from each other, so that a field in the wrong place would show.
+ *
+ * Build and run, from the repository's root on x86-64 Linux:
+ *
+ *     rt staticlib tembuzar
+ *     cc -O2 -Iinclude examples/every_entry.c target/staticlib/libtembuzar.a -o target/every_entry && target/every_entry
+ */
+#include <math.h>
+#include <stdio.h>
+
+#include "tembuzar.h"
+
+static double odds[5 * 4 * 3];
+static uint32_t stamps[5 * 4 * 3];
+static const tembuzar_model model = {.occupied = 0.75, .free = -0.5, .ceiling = 4.0};
+
+static void two_axes(void)
+{
+    enum { CELLS = 5 * 4 };
+    tembuzar_map_answer2 m = tembuzar_new2((tembuzar_extents2){5, 4}, model, odds, CELLS, stamps, CELLS);
+    printf("new          number %u, %lu by %lu, model %g %g %g, frame %u [0, 5 by 4, 0.75 -0.5 4, 1]\n", m.refusal.number,
+           m.map.extents.x, m.map.extents.y, m.map.model.occupied, m.map.model.free, m.map.model.ceiling, m.map.frame);
+    m = tembuzar_begin_scan2(m.map, stamps, CELLS);
+    printf("begin_scan   number %u, frame %u [0, 2]\n", m.refusal.number, m.map.frame);
+    tembuzar_mark_answer k = tembuzar_mark_free2(m.map, odds, CELLS, stamps, CELLS, (tembuzar_cell2){1, 2});
+    printf("mark_free    number %u, changed %d, odds %g, stamp %u [0, 1, -0.5, 4]\n",
+           k.refusal.number, k.changed, odds[11], stamps[11]);
+    k = tembuzar_mark_occupied2(m.map, odds, CELLS, stamps, CELLS, (tembuzar_cell2){1, 2});
+    printf("mark_occ.    number %u, changed %d, odds %g, stamp %u [0, 1, 0.75, 5]\n",
+           k.refusal.number, k.changed, odds[11], stamps[11]);
+    tembuzar_beam2 beam = {.origin = {4.5, 3.5}, .endpoint = {2.25, 3.25}, .hit = true};
+    tembuzar_count_answer n = tembuzar_update_ray2(m.map, odds, CELLS, stamps, CELLS, beam);
+    printf("update_ray   number %u, count %lu, odds %g %g %g [0, 3, 0.75 -0.5 -0.5]\n",
+           n.refusal.number, n.count, odds[17], odds[18], odds[19]);
+    const double beams[] = {0.5, 0.5, 3.5, 0.5, 4.5, 3.5, NAN, 1.0};
+    const uint8_t hits[] = {0, 1};
+    n = tembuzar_update_scan2(m.map, odds, CELLS, stamps, CELLS, beams, 8, hits, 2);
+    printf("update_scan  number %u, values %u, beam %lu, count so far %lu [7, 2, 1, 4]\n",
+           n.refusal.number, n.refusal.values, n.refusal.place, n.refusal.count);
+    tembuzar_refusal r = tembuzar_set_log_odds2(m.map, odds, CELLS, (tembuzar_cell2){3, 1}, 9.5);
+    printf("set_log_odds number %u, odds %g [0, 4]\n", r.number, odds[8]);
+    r = tembuzar_set_log_odds2(m.map, odds, CELLS, (tembuzar_cell2){3, -7}, 9.5);
+    printf("set_log_odds number %u, values %u, axis %lu, index %ld, extent %lu [5, 3, 1, -7, 4]\n",
+           r.number, r.values, r.axis, r.index, r.extent);
+    tembuzar_odds_answer o = tembuzar_log_odds_at2(m.map, odds, CELLS, (tembuzar_cell2){3, 1});
+    printf("log_odds_at  number %u, found %d, odds %g [0, 1, 4]\n", o.refusal.number, o.found, o.odds);
+    tembuzar_sample_answer2 s = tembuzar_sample_log_odds2(m.map, odds, CELLS, (tembuzar_point2){3.5, 0.75});
+    printf("sample       number %u, found %d, value %g, gradient (%g, %g) [0, 1, 1.4375, (-2.875, 2.25)]\n",
+           s.refusal.number, s.found,
+           s.sample.value, s.sample.gradient.x, s.sample.gradient.y);
+    tembuzar_cell_answer2 c = tembuzar_cell_containing2(m.map, (tembuzar_point2){4.75, 1.5});
+    printf("containing   number %u, cell (%ld, %ld) [0, (4, 1)]\n", c.refusal.number, c.cell.x, c.cell.y);
+    tembuzar_line_answer2 l = tembuzar_plotter2((tembuzar_point2){0.5, 0.5}, (tembuzar_point2){-1.5, 1.5});
+    printf("plotter      number %u, primary %lu, remaining %lu [0, 0, 3]\nstep        ",
+           l.refusal.number, l.line.primary, l.line.remaining);
+    tembuzar_step_answer2 t = tembuzar_step2(l.line);
+    for (; t.found; t = tembuzar_step2(t.line))
+        printf(" (%ld,%ld)", t.cell.x, t.cell.y);
+    printf(", then none [(0,0) (0,0) (-1,1)]\n");
+    m = tembuzar_reset2(m.map, odds, CELLS, stamps, CELLS);
+    printf("reset        number %u, frame %u, odds %g, stamp %u [0, 1, 0, 0]\n",
+           m.refusal.number, m.map.frame, odds[11], stamps[11]);
+}
+
+static void three_axes(void)
+{
+    enum { CELLS = 5 * 4 * 3 };
+    tembuzar_map_answer3 m = tembuzar_new3((tembuzar_extents3){5, 4, 3}, model, odds, CELLS, stamps, CELLS);
+    printf("new          number %u, %lu by %lu by %lu, model %g %g %g, frame %u [0, 5 by 4 by 3, 0.75 -0.5 4, 1]\n",
+           m.refusal.number,
+           m.map.extents.x, m.map.extents.y, m.map.extents.z, m.map.model.occupied, m.map.model.free, m.map.model.ceiling, m.map.frame);
+    m = tembuzar_begin_scan3(m.map, stamps, CELLS);
+    printf("begin_scan   number %u, frame %u [0, 2]\n", m.refusal.number, m.map.frame);
+    tembuzar_mark_answer k = tembuzar_mark_free3(m.map, odds, CELLS, stamps, CELLS, (tembuzar_cell3){1, 2, 0});
+    printf("mark_free    number %u, changed %d, odds %g, stamp %u [0, 1, -0.5, 4]\n",
+           k.refusal.number, k.changed, odds[11], stamps[11]);
+    k = tembuzar_mark_occupied3(m.map, odds, CELLS, stamps, CELLS, (tembuzar_cell3){1, 2, 0});
+    printf("mark_occ.    number %u, changed %d, odds %g, stamp %u [0, 1, 0.75, 5]\n",
+           k.refusal.number, k.changed, odds[11], stamps[11]);
+    tembuzar_beam3 beam = {.origin = {4.5, 3.5, 2.5}, .endpoint = {2.25, 3.25, 2.75}, .hit = true};
+    tembuzar_count_answer n = tembuzar_update_ray3(m.map, odds, CELLS, stamps, CELLS, beam);
+    printf("update_ray   number %u, count %lu, odds %g %g %g [0, 3, 0.75 -0.5 -0.5]\n",
+           n.refusal.number, n.count, odds[57], odds[58], odds[59]);
+    const double beams[] = {0.5, 0.5, 1.5, 3.5, 0.5, 1.5, 4.5, 3.5, 2.5, 1.0, NAN, 1.0};
+    const uint8_t hits[] = {0, 1};
+    n = tembuzar_update_scan3(m.map, odds, CELLS, stamps, CELLS, beams, 12, hits, 2);
+    printf("update_scan  number %u, values %u, beam %lu, count so far %lu [7, 2, 1, 4]\n",
+           n.refusal.number, n.refusal.values, n.refusal.place, n.refusal.count);
+    tembuzar_refusal r = tembuzar_set_log_odds3(m.map, odds, CELLS, (tembuzar_cell3){3, 1, 2}, 9.5);
+    printf("set_log_odds number %u, odds %g [0, 4]\n", r.number, odds[48]);
+    r = tembuzar_set_log_odds3(m.map, odds, CELLS, (tembuzar_cell3){3, 1, -7}, 9.5);
+    printf("set_log_odds number %u, values %u, axis %lu, index %ld, extent %lu [5, 3, 2, -7, 3]\n",
+           r.number, r.values, r.axis, r.index, r.extent);
+    tembuzar_odds_answer o = tembuzar_log_odds_at3(m.map, odds, CELLS, (tembuzar_cell3){3, 1, 2});
+    printf("log_odds_at  number %u, found %d, odds %g [0, 1, 4]\n", o.refusal.number, o.found, o.odds);
+    tembuzar_sample_answer3 s = tembuzar_sample_log_odds3(m.map, odds, CELLS, (tembuzar_point3){3.5, 0.75, 2.0});
+    printf("sample       number %u, found %d, value %g, gradient (%g, %g, %g) [0, 1, 1.5, (-3, 2, 1.5625)]\n",
+           s.refusal.number, s.found,
+           s.sample.value, s.sample.gradient.x, s.sample.gradient.y, s.sample.gradient.z);
+    tembuzar_cell_answer3 c = tembuzar_cell_containing3(m.map, (tembuzar_point3){4.75, 1.5, 2.25});
+    printf("containing   number %u, cell (%ld, %ld, %ld) [0, (4, 1, 2)]\n", c.refusal.number, c.cell.x, c.cell.y, c.cell.z);
+    tembuzar_line_answer3 l = tembuzar_plotter3((tembuzar_point3){0.5, 0.5, 2.5}, (tembuzar_point3){-1.5, 1.5, 2.5});
+    printf("plotter      number %u, primary %lu, remaining %lu [0, 0, 3]\nstep        ",
+           l.refusal.number, l.line.primary, l.line.remaining);
+    tembuzar_step_answer3 t = tembuzar_step3(l.line);
+    for (; t.found; t = tembuzar_step3(t.line))
+        printf(" (%ld,%ld,%ld)", t.cell.x, t.cell.y, t.cell.z);
+    printf(", then none [(0,0,2) (0,0,2) (-1,1,2)]\n");
+    m = tembuzar_reset3(m.map, odds, CELLS, stamps, CELLS);
+    printf("reset        number %u, frame %u, odds %g, stamp %u [0, 1, 0, 0]\n",
+           m.refusal.number, m.map.frame, odds[11], stamps[11]);
+}
+
+int main(void)
+{
+    printf("two axes\n");
+    two_axes();
+    printf("three axes\n");
+    three_axes();
+    return 0;
+}
