@@ -3,6 +3,7 @@
 use Prim.Native.Nat.{ℕ, zero, suc}
 use mathlib.Core.List.{List}
 use lib.ListN.{getD}
+use mir.Syntax.{Place, place, Opd, copy, int, intNeg, intBig, ptrConst, float, opdTrue, opdFalse, opdUnit, Rv, rvOpd, op1, op2, addrOf, aggregate, repeat}
 use mir.Syntax.{Body, skip, seq, assign, block, loop, cond, switch, exit, return, call, Arms, arm, default, noDefault, Ty, Local, local, valueLocal, tyUnit}
 
 abbrev tyOf : Local → Ty
@@ -64,3 +65,38 @@ nth-arm (suc n) noDefault = skip
 
 abbrev pub armAt : ℕ → Body → Body
 armAt n b = nth-arm n (arms b)
+
+-- the local that an assignment copies from
+abbrev ofPlace : Place → ℕ
+ofPlace (place k st) = k
+
+abbrev ofOpd : Opd → ℕ
+ofOpd (copy p) = ofPlace p
+ofOpd (int w n) = 0
+ofOpd (intNeg w n) = 0
+ofOpd (intBig w n) = 0
+ofOpd (ptrConst n) = 0
+ofOpd (float f n) = 0
+ofOpd opdTrue = 0
+ofOpd opdFalse = 0
+ofOpd opdUnit = 0
+
+abbrev ofRv : Rv → ℕ
+ofRv (rvOpd x) = ofOpd x
+ofRv (op1 o x) = 0
+ofRv (op2 o x y) = 0
+ofRv (addrOf p) = 0
+ofRv (aggregate xs) = 0
+ofRv (repeat x n) = 0
+
+abbrev pub sourceOf : Body → ℕ
+sourceOf (assign p r) = ofRv r
+sourceOf (seq a b) = 0
+sourceOf skip = 0
+sourceOf (block b) = 0
+sourceOf (loop b) = 0
+sourceOf (cond c a b) = 0
+sourceOf (switch c as') = 0
+sourceOf (exit n) = 0
+sourceOf return = 0
+sourceOf (call n xs p) = 0

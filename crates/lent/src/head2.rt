@@ -12,7 +12,8 @@ pub fn begin_scan2(map: &mut GridMap2, stamps: &mut [u32]) -> SetAnswer
     ensures { λ r. ⌜ opened2 r (now (map .exit)) (now (stamps .exit))
         ≡ leftIn (head2 (now (map .entry))) (beginScanEntry (head2 (now (map .entry))) (now (stamps .entry))) ⌝ }
 {
-    match GridMap2::begin_scan(*map, stamps) {
+    let was = *map;
+    match was.begin_scan(stamps) {
         MapAnswer2::Map(opened) => {
             map.frame = opened.frame;
             SetAnswer::Done

@@ -12,7 +12,8 @@ pub fn begin_scan3(map: &mut GridMap3, stamps: &mut [u32]) -> SetAnswer
     ensures { λ r. ⌜ opened3 r (now (map .exit)) (now (stamps .exit))
         ≡ leftIn (head3 (now (map .entry))) (beginScanEntry (head3 (now (map .entry))) (now (stamps .entry))) ⌝ }
 {
-    match GridMap3::begin_scan(*map, stamps) {
+    let was = *map;
+    match was.begin_scan(stamps) {
         MapAnswer3::Map(opened) => {
             map.frame = opened.frame;
             SetAnswer::Done
