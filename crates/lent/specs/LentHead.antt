@@ -6,8 +6,8 @@ use Rattle.rules.specs.RefusalNumbers.Entries.{Outcome}
 use Rattle.rules.specs.TheGridAndItsBounds.{Head}
 use Rattle.types.specs.Answers.{setAnswer}
 use Rattle.types.specs.declared.answers.SetAnswer.{SetAnswer}
-use Rattle.grid_map.specs.declared.map.GridMap2.{GridMap2}
-use Rattle.grid_map.specs.declared.map.GridMap3.{GridMap3}
+use Rattle.grid_map.specs.declared.map2.GridMap2.{GridMap2}
+use Rattle.grid_map.specs.declared.map3.GridMap3.{GridMap3}
 use Rattle.grid_map.specs.Heads.{head2, head3}
 
 pub record Opened : Type 0 where

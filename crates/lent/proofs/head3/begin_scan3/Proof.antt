@@ -55,17 +55,17 @@ use Rattle.types.proofs.frames.Frame.Laws as K′
 use Rattle.types.proofs.refusal.Refusal as F
 use Rattle.types.proofs.refusal.Refusal.Laws as F′
 use Rattle.grid_map.specs.Heads.{head3, openOutcome3}
-use Rattle.grid_map.specs.declared.map.GridMap3.{GridMap3}
-use Rattle.grid_map.specs.declared.map.MapAnswer3.{MapAnswer3}
-use Rattle.grid_map.specs.declared.map.MapAnswer3.the-variants.{Map, Refused}
-use Rattle.grid_map.proofs.map.GridMap3 as T
-use Rattle.grid_map.proofs.map.GridMap3.Laws as T′
-use Rattle.grid_map.proofs.map.MapAnswer3 as N
-use Rattle.grid_map.proofs.map.MapAnswer3.Laws as N′
-use Rattle.grid_map.proofs.map.GridMap3.begin_scan as begin-scan
-use Rattle.grid_map.proofs.map.GridMap3.begin_scan.Symbol as begin-scan-def
-use Rattle.grid_map.proofs.map.GridMap3.begin_scan.Symbol.{name as #begin-scan}
-use Rattle.grid_map.proofs.map.GridMap3.begin_scan.Met as begin-scan-thm
+use Rattle.grid_map.specs.declared.map3.GridMap3.{GridMap3}
+use Rattle.grid_map.specs.declared.map3.MapAnswer3.{MapAnswer3}
+use Rattle.grid_map.specs.declared.map3.MapAnswer3.the-variants.{Map, Refused}
+use Rattle.grid_map.proofs.map3.GridMap3 as T
+use Rattle.grid_map.proofs.map3.GridMap3.Laws as T′
+use Rattle.grid_map.proofs.map3.MapAnswer3 as N
+use Rattle.grid_map.proofs.map3.MapAnswer3.Laws as N′
+use Rattle.grid_map.proofs.map3.GridMap3.begin_scan as begin-scan
+use Rattle.grid_map.proofs.map3.GridMap3.begin_scan.Symbol as begin-scan-def
+use Rattle.grid_map.proofs.map3.GridMap3.begin_scan.Symbol.{name as #begin-scan}
+use Rattle.grid_map.proofs.map3.GridMap3.begin_scan.Met as begin-scan-thm
 use Rattle.lent.specs.LentHead.{opened3, leftIn}
 use Rattle.lent.proofs.Opening.{advanced}
 use Rattle.lent.proofs.Pieces.{typeAt, here, after, armAt, sourceOf}
@@ -292,5 +292,5 @@ begin-scan3-spec 𝓤 H 𝓜 𝓖 𝓡 =
     entered 𝓤 H (tripleOf 𝓤 H (𝓖 .A) f.signature (f.spec 𝓤 H (𝓖 .A) (𝓜 .mem) (𝓡 .run)))
     (tables 𝓤 H 𝓜 𝓡 code.env .C) (tables 𝓤 H 𝓜 𝓡 code.env .Λ) #begin-scan3 code.function (code.unfolded 𝓤 H 𝓜 𝓡)
     (begin-scan3-meets 𝓤 H (𝓖 .A) (givenOf 𝓤 H 𝓜 𝓖) (𝓜 .mem) (𝓡 .run) (tablesOf 𝓤 H 𝓜 (tables 𝓤 H 𝓜 𝓡 code.env))
-    (cited 𝓤 H (BeginScan 𝓤 H (𝓖 .A) (𝓜 .mem) (𝓡 .run)) 𝓜 𝓡 code.env #begin-scan begin-scan-def.routine code.calls-grid-map·map·GridMap3·begin-scan
+    (cited 𝓤 H (BeginScan 𝓤 H (𝓖 .A) (𝓜 .mem) (𝓡 .run)) 𝓜 𝓡 code.env #begin-scan begin-scan-def.routine code.calls-grid-map·map3·GridMap3·begin-scan
     (begin-scan-thm.met 𝓤 H 𝓜 𝓖 𝓡)))
