@@ -8,6 +8,7 @@
  *
  * The code behind each function is proved to answer by one rule, for every input that the rules below allow.
  * docs/ENTRIES.md names the rule of each.
+ * Link with target/staticlib/libtembuzar.a, which `rt staticlib tembuzar` writes for x86-64 Linux.
  *
  * WHAT THE CALLER HOLDS
  *
