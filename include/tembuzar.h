@@ -2,9 +2,9 @@
  * tembuzar.h: an occupancy grid for sweeps of beams, in two and three axes.
  *
  * A grid has a cell for each place, and each cell has odds: how much speaks for something there (above 0) or
- * for clear air (below 0), as log-odds. A sweep is a list of beams. Each beam leaves a vote for clear air in
- * the cells that it crosses, and one for a return in the cell where it ended, if it ended in a return. Within a
- * sweep a cell takes at most one vote of each kind, and a return takes a clear vote of the same sweep back.
+ * for clear air (below 0), as log-odds. A sweep is a list of beams. A line of cells is plotted along each beam;
+ * each of them takes a vote for clear air, but the last one a vote for a return, if the beam ended in one on the
+ * grid. Within a sweep a cell takes at most one vote of each kind, and a return takes a clear vote back.
  *
  * The code behind each function is proved to answer by one rule, for every input that the rules below allow.
  * docs/ENTRIES.md names the rule of each.
