@@ -1,0 +1,20 @@
+-- A run of stores after another is one run. Assumes nothing.
+use Prim.Native.Nat.{ℕ, suc, _+_}
+use mathlib.Core.List.{List, [], _∷_, _++_}
+use mathlib.Core.Path.{_≡_, refl, sym, ap, _∙_}
+use native.Mathlib.Omega.{arith}
+use lib.ListN.{length, set}
+use lib.Seq.{sets}
+
+module _ {A : Type 0} where
+  pub sets-append : (xs ys l : List A) (i : ℕ) → sets l i (xs ++ ys) ≡ sets (sets l i xs) (i + length xs) ys
+  sets-append [] ys l i = let e : i + 0 ≡ i = omega arith in rw e refl
+  sets-append (x ∷ xs) ys l i =
+      let e : i + suc (length xs) ≡ suc i + length xs = omega arith in
+      sets-append xs ys (set l i x) (suc i) ∙ ap (λ (k : ℕ). sets (sets (set l i x) (suc i) xs) k ys) (sym e)
+
+  -- a list after one run, and after a second that starts where the first ended
+  pub two-runs : (xs ys l l₁ l₂ : List A) (i n : ℕ) → length xs ≡ n → l₁ ≡ sets l i xs → l₂ ≡ sets l₁ (i + n) ys → l₂ ≡ sets l i (xs ++ ys)
+  two-runs xs ys l l₁ l₂ i n size first second =
+      second ∙ ap (λ (m : List A). sets m (i + n) ys) first ∙ ap (λ (k : ℕ). sets (sets l i xs) (i + k) ys) (sym size)
+      ∙ sym (sets-append xs ys l i)

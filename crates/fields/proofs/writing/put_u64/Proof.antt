@@ -1,0 +1,47 @@
+-- Two halves.
+use Prim.Native.Nat.{_/_, _%_}
+use mathlib.Core.Path.{sym, ap, _∙_}
+use denote.Ref.{now}
+use lib.Seq.{sets}
+use borrow.Author.Needs.{needs}
+use Rattle.rules.specs.MapRecord.{littleEndian}
+use Rattle.fields.proofs.Bytes.{length-little, little-eight}
+use Rattle.fields.proofs.Stores.{two-runs}
+use Rattle.fields.proofs.writing.put_u64.Statement.{statement}
+use Rattle.fields.proofs.writing.put_u64.Tie as tie
+
+cast-put-u32 : tie.Need-cast-put-u32
+cast-put-u32 c = search needs
+
+put-u32-requires : tie.Need-put-u32-requires
+put-u32-requires c κs = search needs
+
+add-put-u32 : tie.Need-add-put-u32
+add-put-u32 c = search needs
+
+cast-put-u32-2 : tie.Need-cast-put-u32-2
+cast-put-u32-2 c = search needs
+
+put-u32-requires-2 : tie.Need-put-u32-requires-2
+put-u32-requires-2 c κs = search needs
+
+same-length : tie.Need-same-length
+same-length c = search needs
+
+returns : tie.Need-returns
+returns c =
+    let a = c .before .before .before .before .before .before .before .before .before .args in
+    two-runs (littleEndian 4 (a .n % 4_294_967_296)) (littleEndian 4 (a .n / 4_294_967_296)) (now (a .out)) _ _ (a .at) 4 (length-little 4 (a .n % 4_294_967_296)) (c .before .before .before .before .before .before .put-u32 .ensures) (c .before .before .put-u322 .ensures)
+    ∙ ap (sets (now (a .out)) (a .at)) (sym (little-eight (a .n)))
+
+pub put-u64-spec : {M : Type 1} → statement M
+put-u64-spec =
+    tie.close
+    (tie.spec
+    cast-put-u32
+    put-u32-requires
+    add-put-u32
+    cast-put-u32-2
+    put-u32-requires-2
+    same-length
+    returns)
