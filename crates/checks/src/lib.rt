@@ -85,6 +85,13 @@ impl Uses {
         stamps: false,
         frame: false,
     };
+
+    pub const WRITING: Uses = Uses {
+        model: true,
+        odds: true,
+        stamps: false,
+        frame: true,
+    };
 }
 
 const LEAST_EXTENT: u64 = 2;
@@ -120,7 +127,7 @@ fn fits_capacity3(e: Extents3) -> bool
     e.x * (e.y * e.z) <= MOST_CELLS
 }
 
-fn extents_check2(e: Extents2) -> Check
+pub fn extents_check2(e: Extents2) -> Check
     ensures { λ r. ⌜ checkOf r ≡ extentsRefusal (extents2 e) ⌝ }
 {
     if e.x < LEAST_EXTENT {
@@ -141,7 +148,7 @@ fn extents_check2(e: Extents2) -> Check
     Check::Refused(Refusal::CapacityOverflow)
 }
 
-fn extents_check3(e: Extents3) -> Check
+pub fn extents_check3(e: Extents3) -> Check
     ensures { λ r. ⌜ checkOf r ≡ extentsRefusal (extents3 e) ⌝ }
 {
     if e.x < LEAST_EXTENT {
@@ -169,7 +176,7 @@ fn extents_check3(e: Extents3) -> Check
 }
 
 // Each number within its bounds; being finite follows.
-fn is_bounded(m: Model) -> bool
+pub fn is_bounded(m: Model) -> bool
     ensures { λ r. ⌜ r ≡ bounded (modelOf m) ⌝ }
 {
     if m.occupied > 0.0 {
@@ -193,7 +200,7 @@ fn sizes_bounded(m: Model) -> bool
     false
 }
 
-fn is_open(frame: Frame) -> bool
+pub fn is_open(frame: Frame) -> bool
     ensures { λ r. ⌜ r ≡ openFrame (frame .0) ⌝ }
 {
     let n = frame.0;

@@ -13,8 +13,11 @@ module _ {A : Type 0} where
       let e : i + suc (length xs) ≡ suc i + length xs = omega arith in
       sets-append xs ys (set l i x) (suc i) ∙ ap (λ (k : ℕ). sets (sets (set l i x) (suc i) xs) k ys) (sym e)
 
+  -- a run goes on where its first part ended
+  pub run-on : (xs ys l l₁ : List A) (i n : ℕ) → length xs ≡ n → l₁ ≡ sets l i xs → sets l i (xs ++ ys) ≡ sets l₁ (i + n) ys
+  run-on xs ys l l₁ i n size first =
+      sets-append xs ys l i ∙ ap (λ (k : ℕ). sets (sets l i xs) (i + k) ys) size ∙ ap (λ (m : List A). sets m (i + n) ys) (sym first)
+
   -- a list after one run, and after a second that starts where the first ended
   pub two-runs : (xs ys l l₁ l₂ : List A) (i n : ℕ) → length xs ≡ n → l₁ ≡ sets l i xs → l₂ ≡ sets l₁ (i + n) ys → l₂ ≡ sets l i (xs ++ ys)
-  two-runs xs ys l l₁ l₂ i n size first second =
-      second ∙ ap (λ (m : List A). sets m (i + n) ys) first ∙ ap (λ (k : ℕ). sets (sets l i xs) (i + k) ys) (sym size)
-      ∙ sym (sets-append xs ys l i)
+  two-runs xs ys l l₁ l₂ i n size first second = second ∙ sym (run-on xs ys l l₁ i n size first)

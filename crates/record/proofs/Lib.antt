@@ -1,0 +1,3 @@
+pub mod Odds
+pub mod Shapes
+pub mod Sound

@@ -1,0 +1,64 @@
+-- The odds of a row and of all rows, one step at a time: what a loop over them has left. Assumes nothing.
+use Prim.Native.Nat.{ℕ, zero, suc, _+_, _-_, _*_, _≤_, _<_}
+use mathlib.Core.Bool.{Bool, true, false, not, _&&_, _||_}
+use mathlib.Core.List.{List, [], _∷_, _++_, append-nil}
+use mathlib.Core.Path.{_≡_, refl, sym, ap, _∙_}
+use native.Mathlib.Nat.{suc-mul}
+use native.Mathlib.Omega.{arith}
+use lib.Ieee.{Float, binary64, ofBits, lt}
+use lib.ListN.{length, length-append, take, drop}
+use lib.Seq.{sets, sets-eq, drop-drop, drop-length}
+use Rattle.rules.specs.TheGridAndItsBounds.{Model, floor}
+use Rattle.rules.specs.MapRecord.{fromLittleEndian, floatsIn, oddsInBounds, fieldSize}
+use Rattle.record.specs.Reading.{oddsAt}
+
+-- one of so many and those after it
+pub one-of : (n k : ℕ) → 0 < n → n * k ≡ k + (n - 1) * k
+one-of zero k h = absurd (omega arith)
+one-of (suc n) k h = let e : suc n - 1 ≡ n = omega arith in rw (suc-mul, e) (omega arith)
+
+-- ---- bounds
+pub bounds-broken : (m : Model) (x : Float) (xs : List Float) → (lt x (floor m) || lt (m .ceiling) x) ≡ true → oddsInBounds m (x ∷ xs) ≡ false
+unfolding oddsInBounds
+bounds-broken m x xs h = rw h refl
+
+pub bounds-kept : (m : Model) (x : Float) (xs : List Float) → (lt x (floor m) || lt (m .ceiling) x) ≡ false → oddsInBounds m (x ∷ xs) ≡ oddsInBounds m xs
+unfolding oddsInBounds
+bounds-kept m x xs h = rw h refl
+
+-- ---- a row's floats
+pub floats-step : (n at : ℕ) (bs : List ℕ) → 0 < n
+    → floatsIn n (drop at bs) ≡ ofBits binary64 (fromLittleEndian 8 (drop at bs)) ∷ floatsIn (n - 1) (drop (at + 8) bs)
+unfolding floatsIn
+floats-step zero at bs h = absurd (omega arith)
+floats-step (suc n) at bs h =
+    let e : suc n - 1 ≡ n = omega arith in
+    rw (e, drop-drop) refl
+
+pub length-floats : (n : ℕ) (bs : List ℕ) → length (floatsIn n bs) ≡ n
+unfolding floatsIn
+length-floats zero bs = refl
+length-floats (suc n) bs = ap suc (length-floats n (drop 8 bs))
+
+-- ---- the rows' floats
+pub rows-step : (w n at : ℕ) (bs : List ℕ) → 0 < n
+    → oddsAt w n (drop at bs) ≡ floatsIn w (drop (at + 3) bs) ++ oddsAt w (n - 1) (drop (at + fieldSize (8 * w)) bs)
+unfolding oddsAt
+rows-step w zero at bs h = absurd (omega arith)
+rows-step w (suc n) at bs h =
+    let e : suc n - 1 ≡ n = omega arith in
+    rw (e, drop-drop 3 at bs, drop-drop (fieldSize (8 * w)) at bs) refl
+
+pub length-rows : (w n : ℕ) (bs : List ℕ) → length (oddsAt w n bs) ≡ n * w
+unfolding oddsAt
+length-rows w zero bs = omega arith
+length-rows w (suc n) bs =
+    length-append (floatsIn w (drop 3 bs)) (oddsAt w n (drop (fieldSize (8 * w)) bs))
+    ∙ (let a = length-floats w (drop 3 bs) in let b = length-rows w n (drop (fieldSize (8 * w)) bs) in let c = suc-mul n w in omega arith)
+
+-- a run of stores over the whole list leaves the run
+pub sets-whole : (xs l : List Float) → length xs ≡ length l → sets l 0 xs ≡ xs
+sets-whole xs l e =
+    sets-eq xs l 0 (omega arith)
+    ∙ ap (λ (k : ℕ). [] ++ xs ++ drop k l) (let z : 0 + length xs ≡ length l = omega arith in z)
+    ∙ ap (λ (d : List Float). xs ++ d) (drop-length l) ∙ append-nil xs

@@ -1,0 +1,16 @@
+-- By the two tests.
+use mathlib.Core.Path.{refl}
+use Rattle.rules.specs.TheGridAndItsBounds.{floor}
+use Rattle.record.proofs.rows.outside.Statement.{statement}
+use Rattle.record.proofs.rows.outside.Tie as tie
+
+returns : tie.Need-returns
+unfolding floor
+returns c = rw (c .if1 .taken) refl
+
+returns-2 : tie.Need-returns-2
+unfolding floor
+returns-2 c = rw (c .before .if1 .left) refl
+
+pub outside-spec : {M : Type 1} → statement M
+outside-spec = tie.close (tie.spec returns returns-2)

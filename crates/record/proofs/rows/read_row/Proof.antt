@@ -1,0 +1,84 @@
+-- What is left to store completes the row.
+use Prim.Native.Nat.{_+_, _-_, _*_, _≤_, _<_}
+use mathlib.Core.Path.{_≡_, refl, sym, ap, _∙_}
+use native.Mathlib.Omega.{arith}
+use native.Mathlib.Numerals.{add-one}
+use denote.Ref.{now}
+use lib.ListN.{length, length-set, drop, set}
+use lib.Seq.{sets}
+use borrow.Author.Needs.{needs}
+use Rattle.rules.specs.MapRecord.{floatsIn}
+use Rattle.record.proofs.Odds.{floats-step}
+use Rattle.record.proofs.rows.read_row.Statement.{statement}
+use Rattle.record.proofs.rows.read_row.Tie as tie
+
+abbrev Inv-loop : tie.InvT-loop
+Inv-loop bytes at width odds₀ from here₀ place₀ left₀ odds here place left =
+    (here + 8 * left ≤ length bytes) × (place + left ≤ length odds₀) × (length odds ≡ length odds₀)
+    × (sets odds₀ from (floatsIn width (drop at bytes)) ≡ sets odds place (floatsIn left (drop here bytes)))
+
+abbrev μ-loop : tie.MeasureT-loop
+μ-loop bytes at width odds₀ from here₀ place₀ left₀ odds here place left = left
+
+loop-holds : tie.Need-loop-holds Inv-loop μ-loop
+loop-holds c = (c .before .before .pre .0, c .before .before .pre .1, refl, refl)
+
+f64-at-requires : tie.Need-f64-at-requires Inv-loop μ-loop
+f64-at-requires c κs = omega arith
+
+mul-odds : tie.Need-mul-odds Inv-loop μ-loop
+mul-odds c = search needs
+
+slice-write-odds : tie.Need-slice-write-odds Inv-loop μ-loop
+slice-write-odds c = omega arith
+
+add-here : tie.Need-add-here Inv-loop μ-loop
+add-here c = let good = c .before .before .before .before .before .good in omega arith
+
+add-place : tie.Need-add-place Inv-loop μ-loop
+add-place c = let good = c .before .before .before .before .before .good in omega arith
+
+sub-left : tie.Need-sub-left Inv-loop μ-loop
+sub-left c = omega arith
+
+loop-less : tie.Need-loop-less Inv-loop μ-loop
+loop-less c = omega arith
+
+loop-again : tie.Need-loop-again Inv-loop μ-loop
+loop-again c =
+    let a = c .before .before .before .before .before .args in
+    let l = c .before .before .loop in (
+      omega arith,
+      omega arith,
+      simp length-set (l .inv .2),
+      l .inv .3 ∙ ap (sets (l .odds) (l .place)) (floats-step (l .left) (l .here) (now (a .bytes)) (c .before .loop-test .taken)) ∙ rw (c .f64-at .ensures, add-one) refl,
+    )
+
+same-length : tie.Need-same-length Inv-loop μ-loop
+same-length c = c .before .loop .inv .2
+
+returns : tie.Need-returns Inv-loop μ-loop
+unfolding floatsIn
+returns c =
+    let a = c .before .before .before .before .args in
+    let l = c .before .loop in
+    let none : l .left ≡ 0 = omega arith in
+    sym (l .inv .3 ∙ ap (λ n. sets (l .odds) (l .place) (floatsIn n (drop (l .here) (now (a .bytes))))) none)
+
+pub read-row-spec : {M : Type 1} → statement M
+read-row-spec =
+    tie.close
+    (tie.spec
+    Inv-loop
+    μ-loop
+    loop-holds
+    f64-at-requires
+    mul-odds
+    slice-write-odds
+    add-here
+    add-place
+    sub-left
+    loop-less
+    loop-again
+    same-length
+    returns)

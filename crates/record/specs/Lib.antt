@@ -1,0 +1,2 @@
+-- What reading and writing a record answer, as the rules' values.
+pub mod Reading

@@ -1,0 +1,7 @@
+// The map record of document 01: a map's head and odds as bytes, read and written over lent lists for two and three axes.
+mod check;
+mod reading;
+mod rows;
+
+pub use reading::read_record2;
+pub use reading::read_record3;

@@ -1,0 +1,93 @@
+// Reading a record: the whole of it is tried, then the lent lists, and only then are they written.
+ghost use mathlib.Core.Path.{_≡_};
+ghost use mathlib.Core.Option.{none};
+ghost use Rattle.rules.specs.MapRecord.{recordOf};
+ghost use Rattle.rules.specs.RefusalNumbers.Entries.{readRecordEntry};
+ghost use Rattle.grid_map.specs.Heads.{mapOutcome2, mapOutcome3};
+ghost use Rattle.marks.specs.Marking.{gridOf};
+ghost use Rattle.record.specs.Reading.{refusalIn};
+use crate::check::extents_at2;
+use crate::check::extents_at3;
+use crate::check::model_at;
+use crate::check::record_check2;
+use crate::check::record_check3;
+use crate::rows::read_rows;
+use checks::Check;
+use fields::u32_at;
+use grid_map::GridMap2;
+use grid_map::GridMap3;
+use grid_map::MapAnswer2;
+use grid_map::MapAnswer3;
+use marks::clear_stamps;
+use types::Frame;
+use types::Refusal;
+
+// A record that has been tried and found sound.
+fn read_sound2(bytes: &[u8], odds: &mut [f64], stamps: &mut [u32]) -> MapAnswer2
+    requires { ⌜ refusalIn (recordOf 2 (now bytes)) ≡ none ⌝ }
+    ensures { λ r. ⌜ mapOutcome2 r (now (odds .exit)) (now (stamps .exit))
+        ≡ readRecordEntry 2 (now (bytes .entry)) (gridOf (now (odds .entry)) (now (stamps .entry))) ⌝ }
+{
+    let extents = extents_at2(bytes);
+    let width = extents.x as usize;
+    let count = extents.y as usize;
+    if odds.len() != width * count {
+        return MapAnswer2::Refused(Refusal::Buffer);
+    }
+    if stamps.len() != width * count {
+        return MapAnswer2::Refused(Refusal::Buffer);
+    }
+    read_rows(bytes, 41, width, count, odds);
+    clear_stamps(stamps);
+    MapAnswer2::Map(GridMap2 {
+        extents,
+        model: model_at(bytes, 10),
+        frame: Frame(u32_at(bytes, 37)),
+    })
+}
+
+// A map of two axes from its record. A record of three is broken at its first field.
+pub fn read_record2(bytes: &[u8], odds: &mut [f64], stamps: &mut [u32]) -> MapAnswer2
+    ensures { λ r. ⌜ mapOutcome2 r (now (odds .exit)) (now (stamps .exit))
+        ≡ readRecordEntry 2 (now (bytes .entry)) (gridOf (now (odds .entry)) (now (stamps .entry))) ⌝ }
+{
+    match record_check2(bytes) {
+        Check::Refused(r) => MapAnswer2::Refused(r),
+        Check::Passed => read_sound2(bytes, odds, stamps),
+    }
+}
+
+// A record that has been tried and found sound.
+fn read_sound3(bytes: &[u8], odds: &mut [f64], stamps: &mut [u32]) -> MapAnswer3
+    requires { ⌜ refusalIn (recordOf 3 (now bytes)) ≡ none ⌝ }
+    ensures { λ r. ⌜ mapOutcome3 r (now (odds .exit)) (now (stamps .exit))
+        ≡ readRecordEntry 3 (now (bytes .entry)) (gridOf (now (odds .entry)) (now (stamps .entry))) ⌝ }
+{
+    let extents = extents_at3(bytes);
+    let width = extents.x as usize;
+    let count = (extents.y * extents.z) as usize;
+    if odds.len() != width * count {
+        return MapAnswer3::Refused(Refusal::Buffer);
+    }
+    if stamps.len() != width * count {
+        return MapAnswer3::Refused(Refusal::Buffer);
+    }
+    read_rows(bytes, 43, width, count, odds);
+    clear_stamps(stamps);
+    MapAnswer3::Map(GridMap3 {
+        extents,
+        model: model_at(bytes, 12),
+        frame: Frame(u32_at(bytes, 39)),
+    })
+}
+
+// A map of three axes from its record. A record of two is broken at its first field.
+pub fn read_record3(bytes: &[u8], odds: &mut [f64], stamps: &mut [u32]) -> MapAnswer3
+    ensures { λ r. ⌜ mapOutcome3 r (now (odds .exit)) (now (stamps .exit))
+        ≡ readRecordEntry 3 (now (bytes .entry)) (gridOf (now (odds .entry)) (now (stamps .entry))) ⌝ }
+{
+    match record_check3(bytes) {
+        Check::Refused(r) => MapAnswer3::Refused(r),
+        Check::Passed => read_sound3(bytes, odds, stamps),
+    }
+}
