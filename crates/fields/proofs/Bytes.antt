@@ -7,7 +7,7 @@ use native.Mathlib.Omega.{arith}
 use lib.Dec.{eqb, leb}
 use lib.ListN.{length, getD, drop, length-drop}
 use lib.Seq.{drop-drop, getD-drop}
-use borrow.Author.Tests.{le-leb, lt-leb, eq-eqb, ne-eqb}
+use borrow.Author.Tests.{leb-true, le-leb, lt-leb, eq-eqb, ne-eqb}
 use Rattle.rules.specs.MapRecord.{littleEndian, fromLittleEndian, fieldHere}
 
 -- ---- reading
@@ -92,3 +92,19 @@ module _ (tag size at : ℕ) (bs : List ℕ) where
   field-is h t =
       let e : at + 0 ≡ at = omega arith in
       rw (length-drop, le-leb (3 + size) (length bs - at) (omega arith), getD-drop, e, eq-eqb (getD bs at 0) tag t, drop-drop) refl
+
+-- ---- a field that stands whole has its bytes
+pub both-l : (a b : Bool) → (a && b) ≡ true → a ≡ true
+both-l true b e = refl
+both-l false b e = e
+
+pub both-r : (a b : Bool) → (a && b) ≡ true → b ≡ true
+both-r true b e = e
+both-r false b e = let z : _≡_ {A = ℕ} 0 1 = cc in absurd (omega arith)
+
+pub whole : (tag size : ℕ) (bs : List ℕ) → fieldHere tag size bs ≡ true → 3 + size ≤ length bs
+unfolding fieldHere
+whole tag size bs e = leb-true _ _ (both-l _ _ (both-l _ _ e))
+
+pub whole-at : (tag size at : ℕ) (bs : List ℕ) → fieldHere tag size (drop at bs) ≡ true → at + 3 + size ≤ length bs
+whole-at tag size at bs e = let h = whole tag size (drop at bs) e in let d = length-drop at bs in omega arith

@@ -21,3 +21,7 @@ module _ {A : Type 0} where
   -- a list after one run, and after a second that starts where the first ended
   pub two-runs : (xs ys l l₁ l₂ : List A) (i n : ℕ) → length xs ≡ n → l₁ ≡ sets l i xs → l₂ ≡ sets l₁ (i + n) ys → l₂ ≡ sets l i (xs ++ ys)
   two-runs xs ys l l₁ l₂ i n size first second = second ∙ sym (run-on xs ys l l₁ i n size first)
+
+  -- the same, where the second starts at a place known by another name
+  pub then-run : (xs ys l l₁ l₂ : List A) (i j : ℕ) → l₁ ≡ sets l i xs → l₂ ≡ sets l₁ j ys → j ≡ i + length xs → l₂ ≡ sets l i (xs ++ ys)
+  then-run xs ys l l₁ l₂ i j first second e = two-runs xs ys l l₁ l₂ i (length xs) refl first (second ∙ ap (λ (k : ℕ). sets l₁ k ys) e)

@@ -1,3 +1,3 @@
-pub mod Odds
 pub mod Shapes
 pub mod Sound
+pub mod Written

@@ -20,8 +20,9 @@ use Rattle.types.specs.Points.{extents2, extents3}
 use Rattle.types.specs.declared.points.Extents2.{Extents2}
 use Rattle.types.specs.declared.points.Extents3.{Extents3}
 use Rattle.marks.specs.Marking.{gridOf}
-use Rattle.record.specs.Reading.{refusalIn, unlessSound, frameRefusal, modelRefusal, oddsAt, extentsHere, storedIn}
-use Rattle.record.proofs.Odds.{length-rows, sets-whole}
+use Rattle.rows.specs.Rows.{refusalIn, unlessSound, oddsAt}
+use Rattle.record.specs.Reading.{frameRefusal, modelRefusal, extentsHere, storedIn}
+use Rattle.rows.proofs.Odds.{length-rows, sets-whole}
 use Rattle.record.proofs.Sound.{Sound, record-refusal, extents-sound, extents-broken}
 
 -- extents of this many rows of this width

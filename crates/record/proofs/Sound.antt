@@ -17,46 +17,10 @@ use Rattle.rules.specs.TheGridAndItsBounds.{Model, leastExtent, allAtLeast, fit
 use Rattle.rules.specs.MarksAndFrames.{openFrame}
 use Rattle.rules.specs.MapRecord.{Stored, fieldHere, fieldSize, fromLittleEndian, floatsIn, soundOr, oddsInBounds, endIn, rowsIn, frameIn, modelFrom, recordOf, rowWidth, rowCount, rowsOffset}
 use Rattle.laws.specs.Checks.{InBounds, extents-passed}
-use Rattle.record.specs.Reading.{refusalIn, unlessSound, frameRefusal, modelHere, modelRefusal, oddsAt, extentsHere, storedIn}
-
--- ---- answers and their refusals
-sound-then : {A B : Type 0} (offset : ℕ) (sound : Bool) (a : A) (go : A → Answer B)
-    → refusalIn (andThen (soundOr offset sound a) go) ≡ unlessSound offset sound (refusalIn (go a))
-sound-then offset true a go = refl
-sound-then offset false a go = refl
-
-given-then : {A B : Type 0} (x : Answer A) (f : A → B) → refusalIn (andThen x (λ a. given (f a))) ≡ refusalIn x
-given-then (given a) f = refl
-given-then (refused r) f = refl
-
-pub refused-as : {A : Type 0} (x : Answer A) (r : Refusal) → refusalIn x ≡ some r → x ≡ refused r
-refused-as (given a) r e = let z : _≡_ {A = ℕ} 0 1 = cc in absurd (omega arith)
-refused-as (refused q) r e = cc
-
--- nothing refused: the field is sound, and nothing after it is refused
-sound-first : (offset : ℕ) (sound : Bool) (next : Option Refusal) → unlessSound offset sound next ≡ none → sound ≡ true
-sound-first offset true next e = refl
-sound-first offset false next e = let z : _≡_ {A = ℕ} 0 1 = cc in absurd (omega arith)
-
-sound-next : (offset : ℕ) (sound : Bool) (next : Option Refusal) → unlessSound offset sound next ≡ none → next ≡ none
-sound-next offset true next e = e
-sound-next offset false next e = let z : _≡_ {A = ℕ} 0 1 = cc in absurd (omega arith)
-
--- ---- a field that stands whole has its bytes
-pub both-l : (a b : Bool) → (a && b) ≡ true → a ≡ true
-both-l true b e = refl
-both-l false b e = e
-
-pub both-r : (a b : Bool) → (a && b) ≡ true → b ≡ true
-both-r true b e = e
-both-r false b e = let z : _≡_ {A = ℕ} 0 1 = cc in absurd (omega arith)
-
-pub whole : (tag size : ℕ) (bs : List ℕ) → fieldHere tag size bs ≡ true → 3 + size ≤ length bs
-unfolding fieldHere
-whole tag size bs e = leb-true _ _ (both-l _ _ (both-l _ _ e))
-
-pub whole-at : (tag size at : ℕ) (bs : List ℕ) → fieldHere tag size (drop at bs) ≡ true → at + 3 + size ≤ length bs
-whole-at tag size at bs e = let h = whole tag size (drop at bs) e in let d = length-drop at bs in omega arith
+use Rattle.rows.specs.Rows.{refusalIn, unlessSound, oddsAt}
+use Rattle.rows.proofs.Answers.{sound-then, given-then, sound-first, sound-next}
+use Rattle.fields.proofs.Bytes.{both-l, both-r, whole}
+use Rattle.record.specs.Reading.{frameRefusal, modelHere, modelRefusal, extentsHere, storedIn}
 
 -- ---- the end
 module _ (at : ℕ) (bs : List ℕ) where

@@ -1,16 +1,14 @@
 // Trying a record, field by field, before anything is written: each function tries one field and leaves the rest to the next.
 ghost use mathlib.Core.Path.{_≡_};
-ghost use mathlib.Core.Option.{some};
 ghost use Prim.Native.Nat.{_+_, _≤_};
 ghost use lib.ListN.{length, drop};
-ghost use Rattle.rules.specs.RefusalNumbers.{brokenRecord};
 ghost use Rattle.rules.specs.TheGridAndItsBounds.{mostExtent};
 ghost use Rattle.rules.specs.MapRecord.{endIn, rowsIn, recordOf, modelIn, floatsIn};
 ghost use Rattle.checks.specs.Checking.{checkOf};
 ghost use Rattle.types.specs.Models.{modelOf};
 ghost use Rattle.types.specs.Points.{extents2, extents3};
-ghost use Rattle.record.specs.Reading.{refusalIn, frameRefusal, modelRefusal, extentsHere};
-use crate::rows::row_sound;
+ghost use Rattle.rows.specs.Rows.{refusalIn};
+ghost use Rattle.record.specs.Reading.{frameRefusal, modelRefusal, extentsHere};
 use checks::Check;
 use checks::extents_check2;
 use checks::extents_check3;
@@ -20,17 +18,12 @@ use fields::f64_at;
 use fields::field_here;
 use fields::u16_at;
 use fields::u32_at;
+use rows::broken;
+use rows::row_sound;
 use types::Extents2;
 use types::Extents3;
 use types::Frame;
 use types::Model;
-use types::Refusal;
-
-pub fn broken(at: usize) -> Check
-    ensures { λ r. ⌜ checkOf r ≡ some (brokenRecord at) ⌝ }
-{
-    Check::Refused(Refusal::Record { offset: at as u64 })
-}
 
 // The end's field, and nothing after it.
 fn end_check(bytes: &[u8], at: usize) -> Check

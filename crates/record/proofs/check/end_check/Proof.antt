@@ -3,7 +3,8 @@ use mathlib.Core.Path.{sym, _∙_}
 use native.Mathlib.Omega.{arith}
 use denote.Ref.{now}
 use borrow.Author.Needs.{needs}
-use Rattle.record.proofs.Sound.{whole-at, end-absent, end-followed, end-sound}
+use Rattle.fields.proofs.Bytes.{whole-at}
+use Rattle.record.proofs.Sound.{end-absent, end-followed, end-sound}
 use Rattle.record.proofs.check.end_check.Statement.{statement}
 use Rattle.record.proofs.check.end_check.Tie as tie
 

@@ -4,7 +4,7 @@ use native.Mathlib.Omega.{arith}
 use denote.Ref.{now}
 use borrow.Author.Needs.{needs}
 use Rattle.types.specs.Models.{modelOf}
-use Rattle.record.proofs.Sound.{whole-at}
+use Rattle.fields.proofs.Bytes.{whole-at}
 use Rattle.record.proofs.Shapes.{frame-step}
 use Rattle.record.proofs.check.frame_check.Statement.{statement}
 use Rattle.record.proofs.check.frame_check.Tie as tie

@@ -6,7 +6,7 @@ use borrow.Author.Needs.{needs}
 use Rattle.rules.specs.RefusalNumbers.Entries.{extentsRefusal}
 use Rattle.laws.specs.Checks.{extents-passed}
 use Rattle.checks.specs.Checking.{checkOf}
-use Rattle.record.proofs.Sound.{whole}
+use Rattle.fields.proofs.Bytes.{whole}
 use Rattle.record.proofs.Shapes.{shape2, first-absent, extents-refused, extents-held}
 use Rattle.record.proofs.check.record_check2.Statement.{statement}
 use Rattle.record.proofs.check.record_check2.Tie as tie

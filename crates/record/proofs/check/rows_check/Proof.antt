@@ -8,8 +8,9 @@ use lib.ListN.{length, drop}
 use lib.Seq.{drop-drop}
 use Rattle.rules.specs.MapRecord.{fieldSize, rowsIn}
 use Rattle.types.specs.Models.{modelOf}
-use Rattle.record.specs.Reading.{refusalIn}
-use Rattle.record.proofs.Sound.{whole-at, both-l, rows-left}
+use Rattle.rows.specs.Rows.{refusalIn}
+use Rattle.fields.proofs.Bytes.{whole-at, both-l}
+use Rattle.record.proofs.Sound.{rows-left}
 use Rattle.record.proofs.check.rows_check.Statement.{statement}
 use Rattle.record.proofs.check.rows_check.Tie as tie
 

@@ -5,7 +5,7 @@ use borrow.Author.Needs.{needs}
 use Rattle.rules.specs.MapRecord.{recordOf}
 use Rattle.rules.specs.RefusalNumbers.Entries.{readRecordEntry}
 use Rattle.checks.specs.Checking.{checkOf}
-use Rattle.record.proofs.Sound.{refused-as}
+use Rattle.rows.proofs.Answers.{refused-as}
 use Rattle.record.proofs.reading.read_record3.Statement.{statement}
 use Rattle.record.proofs.reading.read_record3.Tie as tie
 

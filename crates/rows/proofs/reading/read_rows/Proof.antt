@@ -8,10 +8,10 @@ use lib.Seq.{sets}
 use borrow.Author.Needs.{needs}
 use Rattle.rules.specs.MapRecord.{fieldSize, floatsIn}
 use Rattle.fields.proofs.Stores.{run-on}
-use Rattle.record.specs.Reading.{oddsAt}
-use Rattle.record.proofs.Odds.{one-of, rows-step, length-floats}
-use Rattle.record.proofs.rows.read_rows.Statement.{statement}
-use Rattle.record.proofs.rows.read_rows.Tie as tie
+use Rattle.rows.specs.Rows.{oddsAt}
+use Rattle.rows.proofs.Odds.{one-of, rows-step, length-floats}
+use Rattle.rows.proofs.reading.read_rows.Statement.{statement}
+use Rattle.rows.proofs.reading.read_rows.Tie as tie
 
 abbrev Inv-loop : tie.InvT-loop
 Inv-loop bytes at width count odds₀ here₀ place₀ left₀ odds here place left =

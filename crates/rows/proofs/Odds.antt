@@ -10,7 +10,7 @@ use lib.ListN.{length, length-append, take, drop}
 use lib.Seq.{sets, sets-eq, drop-drop, drop-length}
 use Rattle.rules.specs.TheGridAndItsBounds.{Model, floor}
 use Rattle.rules.specs.MapRecord.{fromLittleEndian, floatsIn, oddsInBounds, fieldSize}
-use Rattle.record.specs.Reading.{oddsAt}
+use Rattle.rows.specs.Rows.{oddsAt}
 
 -- one of so many and those after it
 pub one-of : (n k : ℕ) → 0 < n → n * k ≡ k + (n - 1) * k

@@ -8,9 +8,9 @@ use lib.ListN.{length, length-set, drop, set}
 use lib.Seq.{sets}
 use borrow.Author.Needs.{needs}
 use Rattle.rules.specs.MapRecord.{floatsIn}
-use Rattle.record.proofs.Odds.{floats-step}
-use Rattle.record.proofs.rows.read_row.Statement.{statement}
-use Rattle.record.proofs.rows.read_row.Tie as tie
+use Rattle.rows.proofs.Odds.{floats-step}
+use Rattle.rows.proofs.reading.read_row.Statement.{statement}
+use Rattle.rows.proofs.reading.read_row.Tie as tie
 
 abbrev Inv-loop : tie.InvT-loop
 Inv-loop bytes at width odds₀ from here₀ place₀ left₀ odds here place left =

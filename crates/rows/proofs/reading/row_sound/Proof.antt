@@ -5,9 +5,9 @@ use native.Mathlib.Omega.{arith}
 use denote.Ref.{now}
 use lib.Seq.{drop-drop}
 use borrow.Author.Needs.{needs}
-use Rattle.record.proofs.Sound.{whole-at}
-use Rattle.record.proofs.rows.row_sound.Statement.{statement}
-use Rattle.record.proofs.rows.row_sound.Tie as tie
+use Rattle.fields.proofs.Bytes.{whole-at}
+use Rattle.rows.proofs.reading.row_sound.Statement.{statement}
+use Rattle.rows.proofs.reading.row_sound.Tie as tie
 
 mul-field-here : tie.Need-mul-field-here
 mul-field-here c = search needs

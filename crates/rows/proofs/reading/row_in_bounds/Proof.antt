@@ -6,9 +6,9 @@ use denote.Ref.{now}
 use lib.ListN.{length, drop}
 use Rattle.rules.specs.MapRecord.{floatsIn, oddsInBounds}
 use Rattle.types.specs.Models.{modelOf}
-use Rattle.record.proofs.Odds.{floats-step, bounds-broken, bounds-kept}
-use Rattle.record.proofs.rows.row_in_bounds.Statement.{statement}
-use Rattle.record.proofs.rows.row_in_bounds.Tie as tie
+use Rattle.rows.proofs.Odds.{floats-step, bounds-broken, bounds-kept}
+use Rattle.rows.proofs.reading.row_in_bounds.Statement.{statement}
+use Rattle.rows.proofs.reading.row_in_bounds.Tie as tie
 
 abbrev Inv-loop : tie.InvT-loop
 Inv-loop bytes at width model here₀ left₀ here left = (here + 8 * left ≤ length bytes) × (oddsInBounds (modelOf model) (floatsIn width (drop at bytes)) ≡ oddsInBounds (modelOf model) (floatsIn left (drop here bytes)))

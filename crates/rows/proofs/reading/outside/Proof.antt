@@ -1,8 +1,8 @@
 -- By the two tests.
 use mathlib.Core.Path.{refl}
 use Rattle.rules.specs.TheGridAndItsBounds.{floor}
-use Rattle.record.proofs.rows.outside.Statement.{statement}
-use Rattle.record.proofs.rows.outside.Tie as tie
+use Rattle.rows.proofs.reading.outside.Statement.{statement}
+use Rattle.rows.proofs.reading.outside.Tie as tie
 
 returns : tie.Need-returns
 unfolding floor

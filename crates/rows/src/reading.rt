@@ -8,7 +8,7 @@ ghost use lib.Seq.{sets};
 ghost use Rattle.rules.specs.TheGridAndItsBounds.{floor, mostExtent};
 ghost use Rattle.rules.specs.MapRecord.{fieldHere, fieldSize, floatsIn, oddsInBounds};
 ghost use Rattle.types.specs.Models.{modelOf};
-ghost use Rattle.record.specs.Reading.{oddsAt};
+ghost use Rattle.rows.specs.Rows.{oddsAt};
 use fields::f64_at;
 use fields::field_here;
 use types::Model;

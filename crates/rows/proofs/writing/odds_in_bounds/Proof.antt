@@ -1,0 +1,81 @@
+-- The numbers passed are within the bounds, so what is left decides.
+use Prim.Native.Nat.{_+_, _≤_}
+use mathlib.Core.Path.{_≡_, refl, sym, ap, _∙_}
+use native.Mathlib.Omega.{arith}
+use denote.Ref.{now}
+use lib.ListN.{length, take, drop}
+use borrow.Author.Needs.{needs}
+use Rattle.rules.specs.MapRecord.{oddsInBounds}
+use Rattle.types.specs.Models.{modelOf}
+use Rattle.rows.proofs.Odds.{bounds-broken, bounds-kept}
+use Rattle.rows.proofs.Written.{part-step}
+use Rattle.rows.proofs.writing.odds_in_bounds.Statement.{statement}
+use Rattle.rows.proofs.writing.odds_in_bounds.Tie as tie
+
+abbrev Inv-loop : tie.InvT-loop
+Inv-loop odds from width model place₀ left₀ place left = (place + left ≤ length odds) × (oddsInBounds (modelOf model) (take width (drop from odds)) ≡ oddsInBounds (modelOf model) (take left (drop place odds)))
+
+abbrev μ-loop : tie.MeasureT-loop
+μ-loop odds from width model place₀ left₀ place left = left
+
+loop-holds : tie.Need-loop-holds Inv-loop μ-loop
+loop-holds c = (c .before .pre, refl)
+
+mul-outside : tie.Need-mul-outside Inv-loop μ-loop
+mul-outside c = search needs
+
+shared-slice-read-outside : tie.Need-shared-slice-read-outside Inv-loop μ-loop
+shared-slice-read-outside c = omega arith
+
+outside-requires : tie.Need-outside-requires Inv-loop μ-loop
+outside-requires c κs = tt
+
+returns : tie.Need-returns Inv-loop μ-loop
+returns c =
+    let a = c .before .before .before .before .before .before .args in
+    let l = c .before .before .before .before .loop in
+    sym (l .inv .1 ∙ ap (oddsInBounds (modelOf (a .model))) (part-step (l .left) (l .place) (now (a .odds)) (c .before .before .before .loop-test .taken) (l .inv .0))
+    ∙ bounds-broken (modelOf (a .model)) _ _ (sym (c .before .outside .ensures) ∙ c .if1 .taken))
+
+add-place : tie.Need-add-place Inv-loop μ-loop
+add-place c = let good = c .before .before .before .before .before .before .good in omega arith
+
+sub-left : tie.Need-sub-left Inv-loop μ-loop
+sub-left c = omega arith
+
+loop-less : tie.Need-loop-less Inv-loop μ-loop
+loop-less c = omega arith
+
+loop-again : tie.Need-loop-again Inv-loop μ-loop
+loop-again c =
+    let a = c .before .before .before .before .before .before .args in
+    let l = c .before .before .before .before .loop in (
+      omega arith,
+      l .inv .1 ∙ ap (oddsInBounds (modelOf (a .model))) (part-step (l .left) (l .place) (now (a .odds)) (c .before .before .before .loop-test .taken) (l .inv .0))
+          ∙ bounds-kept (modelOf (a .model)) _ _ (sym (c .before .outside .ensures) ∙ c .if1 .left),
+    )
+
+returns-2 : tie.Need-returns-2 Inv-loop μ-loop
+unfolding oddsInBounds
+returns-2 c =
+    let a = c .before .before .before .args in
+    let l = c .before .loop in
+    let none : l .left ≡ 0 = omega arith in
+    sym (l .inv .1 ∙ ap (λ n. oddsInBounds (modelOf (a .model)) (take n (drop (l .place) (now (a .odds))))) none)
+
+pub odds-in-bounds-spec : {M : Type 1} → statement M
+odds-in-bounds-spec =
+    tie.close
+    (tie.spec
+    Inv-loop
+    μ-loop
+    loop-holds
+    mul-outside
+    shared-slice-read-outside
+    outside-requires
+    returns
+    add-place
+    sub-left
+    loop-less
+    loop-again
+    returns-2)
