@@ -1,3 +1,4 @@
 pub mod Answers
 pub mod Odds
+pub mod Shapes
 pub mod Written

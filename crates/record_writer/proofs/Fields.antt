@@ -1,0 +1,191 @@
+-- A record's bytes field by field, and writing by the rows' width and number. Over any number of axes. Assumes nothing.
+use Prim.Native.Nat.{ℕ, suc, _+_, _*_, _^_, _≤_, _<_}
+use mathlib.Core.Bool.{Bool, true, false, cond}
+use mathlib.Core.List.{List, [], _∷_, _++_, append-assoc, append-nil}
+use mathlib.Core.Path.{_≡_, refl, sym, ap, _∙_}
+use native.Mathlib.Nat.{mul-add, mul-comm, mul-left-comm, le-mul-of-pos-right}
+use native.Mathlib.Omega.{arith}
+use lib.Dec.{leb}
+use lib.Ieee.{Float, binary64, toBits}
+use lib.ListN.{length, length-append, drop}
+use lib.Seq.{sets, sets-eq}
+use borrow.Author.Tests.{leb-true}
+use Rattle.rules.specs.RefusalNumbers.{Refusal, Answer, given, refused, andThen, noRoom}
+use Rattle.rules.specs.RefusalNumbers.Entries.{Outcome, writeAnswer}
+use Rattle.rules.specs.TheGridAndItsBounds.{Model, Head, cells, mostCells}
+use Rattle.rules.specs.MapRecord.{littleEndian, field, fieldSize, floatBytes, extentBytes, rowsBytes, rowsChecked, rowsOffset, recordBytes, recordSize, roomFor, writable, rowWidth, rowCount}
+use Rattle.laws.specs.Checks.{InBounds}
+use Rattle.fields.proofs.Bytes.{length-little}
+use Rattle.fields.proofs.Stores.{then-run}
+use Rattle.rows.proofs.Written.{length-field, length-rows-bytes, field-of}
+use Rattle.record_writer.specs.Writing.{sizeOf, writableRows, modelField, frameField, restBytes}
+use Rattle.rows.proofs.Shapes.{Shape, few}
+
+-- ---- the fields, from the stores of their parts
+module _ (at : ℕ) (out : List ℕ) where
+  pub model-written : (m : Model) (out₁ out₂ out₃ out₄ : List ℕ)
+      → out₁ ≡ sets out at (2 ∷ littleEndian 2 24)
+      → out₂ ≡ sets out₁ (at + 3) (littleEndian 8 (toBits binary64 (m .occupied)))
+      → out₃ ≡ sets out₂ (at + 11) (littleEndian 8 (toBits binary64 (m .free)))
+      → out₄ ≡ sets out₃ (at + 19) (littleEndian 8 (toBits binary64 (m .ceiling)))
+      → out₄ ≡ sets out at (modelField m)
+  unfolding littleEndian field floatBytes
+  model-written m out₁ out₂ out₃ out₄ a b c d =
+      let head : List ℕ = 2 ∷ littleEndian 2 24 in
+      let x : List ℕ = littleEndian 8 (toBits binary64 (m .occupied)) in
+      let y : List ℕ = littleEndian 8 (toBits binary64 (m .free)) in
+      let z : List ℕ = littleEndian 8 (toBits binary64 (m .ceiling)) in
+      let one = then-run head x out out₁ out₂ at (at + 3) a b refl in
+      let two = then-run (head ++ x) y out out₂ out₃ at (at + 11) one c refl in
+      then-run (head ++ x ++ y) z out out₃ out₄ at (at + 19) two d refl
+
+  pub frame-written : (frame : ℕ) (out₁ out₂ : List ℕ) → out₁ ≡ sets out at (3 ∷ littleEndian 2 4) → out₂ ≡ sets out₁ (at + 3) (littleEndian 4 frame)
+      → out₂ ≡ sets out at (frameField frame)
+  unfolding littleEndian field
+  frame-written frame out₁ out₂ a b = then-run (3 ∷ littleEndian 2 4) (littleEndian 4 frame) out out₁ out₂ at (at + 3) a b refl
+
+pub extents2-written : (x y : ℕ) (out out₁ out₂ out₃ : List ℕ)
+    → out₁ ≡ sets out 0 (1 ∷ littleEndian 2 4) → out₂ ≡ sets out₁ 3 (littleEndian 2 x) → out₃ ≡ sets out₂ 5 (littleEndian 2 y)
+    → out₃ ≡ sets out 0 (field 1 (extentBytes (x ∷ y ∷ [])))
+unfolding littleEndian field extentBytes
+extents2-written x y out out₁ out₂ out₃ a b c =
+    let head : List ℕ = 1 ∷ littleEndian 2 4 in
+    let one = then-run head (littleEndian 2 x) out out₁ out₂ 0 3 a b refl in
+    then-run (head ++ littleEndian 2 x) (littleEndian 2 y) out out₂ out₃ 0 5 one c refl
+
+pub extents3-written : (x y z : ℕ) (out out₁ out₂ out₃ out₄ : List ℕ)
+    → out₁ ≡ sets out 0 (1 ∷ littleEndian 2 6) → out₂ ≡ sets out₁ 3 (littleEndian 2 x) → out₃ ≡ sets out₂ 5 (littleEndian 2 y)
+    → out₄ ≡ sets out₃ 7 (littleEndian 2 z) → out₄ ≡ sets out 0 (field 1 (extentBytes (x ∷ y ∷ z ∷ [])))
+unfolding littleEndian field extentBytes
+extents3-written x y z out out₁ out₂ out₃ out₄ a b c d =
+    let head : List ℕ = 1 ∷ littleEndian 2 6 in
+    let one = then-run head (littleEndian 2 x) out out₁ out₂ 0 3 a b refl in
+    let two = then-run (head ++ littleEndian 2 x) (littleEndian 2 y) out out₂ out₃ 0 5 one c refl in
+    then-run (head ++ littleEndian 2 x ++ littleEndian 2 y) (littleEndian 2 z) out out₃ out₄ 0 7 two d refl
+
+-- ---- the fields after the extents'
+length-model : (m : Model) → length (modelField m) ≡ 27
+unfolding littleEndian field floatBytes
+length-model m = refl
+
+length-frame : (frame : ℕ) → length (frameField frame) ≡ 7
+unfolding littleEndian field
+length-frame frame = refl
+
+end-is : field 5 [] ≡ 5 ∷ littleEndian 2 0
+unfolding littleEndian field
+end-is = refl
+
+module _ (m : Model) (frame w n : ℕ) (odds : List Float) (there : n * w ≤ length odds) where
+  length-rows : length (rowsBytes w n odds) ≡ n * fieldSize (8 * w)
+  length-rows = length-rows-bytes w n 0 odds (omega arith)
+
+  pub rest-written : (at : ℕ) (out out₁ out₂ out₃ out₄ : List ℕ)
+      → out₁ ≡ sets out at (modelField m) → out₂ ≡ sets out₁ (at + 27) (frameField frame) → out₃ ≡ sets out₂ (at + 34) (rowsBytes w n odds)
+      → out₄ ≡ sets out₃ (at + 34 + n * fieldSize (8 * w)) (5 ∷ littleEndian 2 0)
+      → out₄ ≡ sets out at (restBytes m frame w n odds)
+  rest-written at out out₁ out₂ out₃ out₄ a b c d =
+      let size₁ = length-model m in
+      let size₂ = length-append (modelField m) (frameField frame) in
+      let size₂′ = length-frame frame in
+      let size₃ = length-append (modelField m ++ frameField frame) (rowsBytes w n odds) in
+      let size₃′ = length-rows in
+      let one = then-run (modelField m) (frameField frame) out out₁ out₂ at (at + 27) a b (omega arith) in
+      let two = then-run (modelField m ++ frameField frame) (rowsBytes w n odds) out out₂ out₃ at (at + 34) one c (omega arith) in
+      then-run (modelField m ++ frameField frame ++ rowsBytes w n odds) (5 ∷ littleEndian 2 0) out out₃ out₄ at (at + 34 + n * fieldSize (8 * w)) two d (omega arith)
+      ∙ ap (λ (e : List ℕ). sets out at (modelField m ++ frameField frame ++ rowsBytes w n odds ++ e)) (sym end-is)
+
+  pub length-rest : length (restBytes m frame w n odds) ≡ 34 + n * fieldSize (8 * w) + 3
+  length-rest =
+      let size₁ = length-model m in
+      let size₂ = length-append (modelField m) (frameField frame) in
+      let size₂′ = length-frame frame in
+      let size₃ = length-append (modelField m ++ frameField frame) (rowsBytes w n odds) in
+      let size₃′ = length-rows in
+      let size₄ = length-append (modelField m ++ frameField frame ++ rowsBytes w n odds) (field 5 []) in
+      let size₄′ = length-field 5 [] in
+      omega arith
+
+-- ---- the whole record
+length-extent-bytes : (es : List ℕ) → length (extentBytes es) ≡ 2 * length es
+unfolding extentBytes
+length-extent-bytes [] = refl
+length-extent-bytes (e ∷ es) =
+    length-append (littleEndian 2 e) (extentBytes es) ∙ (let a = length-little 2 e in let b = length-extent-bytes es in omega arith)
+
+pub length-extents : (es : List ℕ) → length (field 1 (extentBytes es)) ≡ fieldSize (2 * length es)
+length-extents es = length-field 1 (extentBytes es) ∙ ap fieldSize (length-extent-bytes es)
+
+record-is : (h : Head) (odds : List Float)
+    → recordBytes h odds ≡ field 1 (extentBytes (h .extents)) ++ restBytes (h .model) (h .frame) (rowWidth (h .extents)) (rowCount (h .extents)) odds
+unfolding recordBytes
+record-is h odds = simp append-assoc
+
+-- the size, and that there is room, where nothing is refused
+given-size : (m : Model) (w n offset : ℕ) (odds : List Float) (room size : ℕ) → writableRows m w n offset odds room ≡ given size → size ≡ sizeOf offset w n
+unfolding writableRows
+given-size m w n offset odds room size e = go (rowsChecked m w n offset odds) (leb (sizeOf offset w n) room) e
+  where
+    go : (x : Answer (Unit {0})) (b : Bool) → andThen x (λ (t : Unit {0}). cond b (given (sizeOf offset w n)) (refused (noRoom (sizeOf offset w n)))) ≡ given size
+        → size ≡ sizeOf offset w n
+    go (given t) true h = cc
+    go (given t) false h = let z : _≡_ {A = ℕ} 0 1 = cc in absurd (omega arith)
+    go (refused r) b h = let z : _≡_ {A = ℕ} 0 1 = cc in absurd (omega arith)
+
+pub given-room : (m : Model) (w n offset : ℕ) (odds : List Float) (room size : ℕ) → writableRows m w n offset odds room ≡ given size → sizeOf offset w n ≤ room
+unfolding writableRows
+given-room m w n offset odds room size e = go (rowsChecked m w n offset odds) (leb (sizeOf offset w n) room) refl e
+  where
+    go : (x : Answer (Unit {0})) (b : Bool) → leb (sizeOf offset w n) room ≡ b
+        → andThen x (λ (t : Unit {0}). cond b (given (sizeOf offset w n)) (refused (noRoom (sizeOf offset w n)))) ≡ given size → sizeOf offset w n ≤ room
+    go (given t) true p h = leb-true (sizeOf offset w n) room p
+    go (given t) false p h = let z : _≡_ {A = ℕ} 0 1 = cc in absurd (omega arith)
+    go (refused r) b p h = let z : _≡_ {A = ℕ} 0 1 = cc in absurd (omega arith)
+
+module _ (h : Head) (odds : List Float) (out : List ℕ) (w n : ℕ) (shape : Shape (h .extents) w n) where
+  abbrev start : ℕ
+  start = fieldSize (2 * length (h .extents))
+
+  writable-is : writable h odds (length out) ≡ writableRows (h .model) w n (start + 34) odds (length out)
+  unfolding writable writableRows roomFor recordSize rowsOffset
+  writable-is =
+      let e : start + 27 + 7 ≡ start + 34 = omega arith in
+      rw (shape .width-is, shape .count-is, e) refl
+
+  pub not-written : (r : Refusal) → writableRows (h .model) w n (start + 34) odds (length out) ≡ refused r
+      → _≡_ {A = Outcome ℕ (List ℕ)} (record { answer = refused r; lent = out }) (writeAnswer h odds out (writable h odds (length out)))
+  not-written r e = rw (writable-is, e) refl
+
+  pub written : (size : ℕ) (out₁ out₂ : List ℕ) → n * w ≤ length odds
+      → writableRows (h .model) w n (start + 34) odds (length out) ≡ given size
+      → out₁ ≡ sets out 0 (field 1 (extentBytes (h .extents)))
+      → out₂ ≡ sets out₁ start (restBytes (h .model) (h .frame) w n odds)
+      → _≡_ {A = Outcome ℕ (List ℕ)} (record { answer = given size; lent = out₂ }) (writeAnswer h odds out (writable h odds (length out)))
+  written size out₁ out₂ there e a b =
+      let extents : List ℕ = field 1 (extentBytes (h .extents)) in
+      let rest : List ℕ = restBytes (h .model) (h .frame) w n odds in
+      let first : length extents ≡ start = length-extents (h .extents) in
+      let sized : size ≡ sizeOf (start + 34) w n = given-size (h .model) w n (start + 34) odds (length out) size e in
+      let fits = given-room (h .model) w n (start + 34) odds (length out) size e in
+      let long = length-rest (h .model) (h .frame) w n odds there in
+      let both = length-append extents rest in
+      let all : out₂ ≡ sets out 0 (extents ++ rest) = then-run extents rest out out₁ out₂ 0 start a b (omega arith) in
+      let is : recordBytes h odds ≡ extents ++ rest = record-is h odds ∙ rw (shape .width-is, shape .count-is) refl in
+      let k : 0 + length (extents ++ rest) ≡ size = omega arith in
+      let stands : out₂ ≡ recordBytes h odds ++ drop size out =
+      all ∙ sets-eq (extents ++ rest) out 0 (omega arith) ∙ ap (λ (j : ℕ). [] ++ (extents ++ rest) ++ drop j out) k ∙ ap (λ (bs : List ℕ). bs ++ drop size out) (sym is) in
+      rw (writable-is, e, stands) refl
+
+-- the rows are the list's
+pub all-there : (es : List ℕ) (w n : ℕ) (odds : List Float) → Shape es w n → length odds ≡ cells es → n * w ≤ length odds
+all-there es w n odds s e = let a = s .cells-are in let b = mul-comm n w in omega arith
+
+-- a record's bytes can be counted
+pub small : (es : List ℕ) (w n : ℕ) → Shape es w n → InBounds es → 0 < w → n * fieldSize (8 * w) ≤ 11 * mostCells
+small es w n s b p =
+    let most = few es w n s b in
+    let a = mul-add n 3 (8 * w) in
+    let b = mul-left-comm n 8 w in
+    let c = mul-comm n w in
+    let d = le-mul-of-pos-right n p in
+    omega arith
