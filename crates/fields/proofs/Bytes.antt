@@ -1,8 +1,9 @@
 -- Little-endian numbers by halves, and a field's head by its tests. Assumes nothing.
-use Prim.Native.Nat.{ℕ, zero, suc, _+_, _-_, _*_, _/_, _%_, _≤_, _<_}
+use Prim.Native.Nat.{ℕ, zero, suc, _+_, _-_, _*_, _^_, _/_, _%_, _≤_, _<_}
 use mathlib.Core.Bool.{Bool, true, false, _&&_}
 use mathlib.Core.List.{List, [], _∷_, _++_}
 use mathlib.Core.Path.{_≡_, refl, sym, ap, _∙_}
+use native.Mathlib.Nat.{mul-assoc, pow-zero, pow-succ', mod-lt, mod-add-div}
 use native.Mathlib.Omega.{arith}
 use lib.Dec.{eqb, leb}
 use lib.ListN.{length, getD, drop, length-drop}
@@ -30,27 +31,18 @@ from-two at bs =
     let e : at + 1 ≡ suc at = omega arith in
     rw e (omega (arith, from-step 1 at bs, from-step 0 (suc at) bs))
 
-pub from-four : (at : ℕ) (bs : List ℕ) → fromLittleEndian 4 (drop at bs) ≡ fromLittleEndian 2 (drop at bs) + 65_536 * fromLittleEndian 2 (drop (at + 2) bs)
+-- a number of so many bytes, and of so many more after them
+pub from-split : (j k at : ℕ) (bs : List ℕ) → fromLittleEndian (j + k) (drop at bs) ≡ fromLittleEndian j (drop at bs) + 256 ^ j * fromLittleEndian k (drop (at + j) bs)
 unfolding fromLittleEndian
-from-four at bs =
-    let e : at + 2 ≡ suc (suc at) = omega arith in
-    rw e (omega (arith, from-step 3 at bs, from-step 2 (suc at) bs, from-step 1 at bs, from-step 0 (suc at) bs))
-
-pub from-eight : (at : ℕ) (bs : List ℕ) → fromLittleEndian 8 (drop at bs) ≡ fromLittleEndian 4 (drop at bs) + 4_294_967_296 * fromLittleEndian 4 (drop (at + 4) bs)
-unfolding fromLittleEndian
-from-eight at bs =
-    let e : at + 4 ≡ suc (suc (suc (suc at))) = omega arith in
-    rw e (omega (
-      arith,
-      from-step 7 at bs,
-      from-step 6 (suc at) bs,
-      from-step 5 (suc (suc at)) bs,
-      from-step 4 (suc (suc (suc at))) bs,
-      from-step 3 at bs,
-      from-step 2 (suc at) bs,
-      from-step 1 (suc (suc at)) bs,
-      from-step 0 (suc (suc (suc at))) bs,
-    ))
+from-split zero k at bs =
+    let a : zero + k ≡ k = omega arith in
+    let b : at + zero ≡ at = omega arith in
+    rw (a, b, pow-zero 256) (omega arith)
+from-split (suc j) k at bs =
+    let a : suc j + k ≡ suc (j + k) = omega arith in
+    let b : at + suc j ≡ suc at + j = omega arith in
+    let rest = fromLittleEndian k (drop (suc at + j) bs) in
+    rw (a, b, pow-succ' 256 j, mul-assoc 256 (256 ^ j) rest) (omega (arith, from-step (j + k) at bs, from-step j at bs, from-split j k (suc at) bs))
 
 -- ---- writing
 pub length-little : (k n : ℕ) → length (littleEndian k n) ≡ k
@@ -58,22 +50,30 @@ unfolding littleEndian
 length-little zero n = refl
 length-little (suc k) n = ap suc (length-little k (n / 256))
 
-joined : {a b : ℕ} {xs ys : List ℕ} → a ≡ b → xs ≡ ys → a ∷ xs ≡ b ∷ ys
-joined e es = cc
-
 pub little-two : (n : ℕ) → n < 65_536 → littleEndian 2 n ≡ n % 256 ∷ n / 256 ∷ []
 unfolding littleEndian
-little-two n h = joined refl (joined (omega arith) refl)
+little-two n h = let e : n / 256 % 256 ≡ n / 256 = omega arith in rw e refl
 
-pub little-four : (n : ℕ) → littleEndian 4 n ≡ littleEndian 2 (n % 65_536) ++ littleEndian 2 (n / 65_536)
+-- so many bytes of the low part, and so many more of the high one
+little-parts : (j k low high : ℕ) → low < 256 ^ j → littleEndian (j + k) (low + 256 ^ j * high) ≡ littleEndian j low ++ littleEndian k high
 unfolding littleEndian
-little-four n = joined (omega arith) (joined (omega arith) (joined (omega arith) (joined (omega arith) refl)))
+little-parts zero k low high h =
+    let a : zero + k ≡ k = omega arith in
+    let none : low < 1 = rw (pow-zero 256) at h in
+    let b : low + 1 * high ≡ high = omega arith in
+    rw (a, pow-zero 256, b) refl
+little-parts (suc j) k low high h =
+    let a : suc j + k ≡ suc (j + k) = omega arith in
+    let small : low < 256 * 256 ^ j = rw (pow-succ' 256 j) at h in
+    let first : (low + 256 * (256 ^ j * high)) % 256 ≡ low % 256 = omega arith in
+    let rest : (low + 256 * (256 ^ j * high)) / 256 ≡ low / 256 + 256 ^ j * high = omega arith in
+    rw (a, pow-succ' 256 j, mul-assoc 256 (256 ^ j) high, first, rest) (ap (λ (bs : List ℕ). low % 256 ∷ bs) (little-parts j k (low / 256) high (omega arith)))
 
-pub little-eight : (n : ℕ) → littleEndian 8 n ≡ littleEndian 4 (n % 4_294_967_296) ++ littleEndian 4 (n / 4_294_967_296)
-unfolding littleEndian
-little-eight n =
-    joined (omega arith) (joined (omega arith) (joined (omega arith) (joined (omega arith)
-    (joined (omega arith) (joined (omega arith) (joined (omega arith) (joined (omega arith) refl)))))))
+-- the low part is what is left of the number by so many bytes
+pub little-split : (j k n : ℕ) → 0 < 256 ^ j → littleEndian (j + k) n ≡ littleEndian j (n % 256 ^ j) ++ littleEndian k (n / 256 ^ j)
+little-split j k n p =
+    ap (littleEndian (j + k)) (sym (mod-add-div n (256 ^ j)))
+    ∙ little-parts j k (n % 256 ^ j) (n / 256 ^ j) (mod-lt n p)
 
 -- ---- a field's head
 module _ (tag size at : ℕ) (bs : List ℕ) where

@@ -18,7 +18,9 @@ pub fn u16_at(bytes: &[u8], at: usize) -> u16
     requires { ⌜ at + 2 ≤ length (now bytes) ⌝ }
     ensures { λ r. ⌜ r ≡ fromLittleEndian 2 (drop at (now (bytes .entry))) ⌝ }
 {
-    wide(bytes[at]) + 256 * wide(bytes[at + 1])
+    let low = wide(bytes[at]);
+    let high = wide(bytes[at + 1]);
+    low + 256 * high
 }
 
 // The four bytes are there.

@@ -131,14 +131,8 @@ fn write_passed2(map: GridMap2, odds: &[f64], out: &mut [u8]) -> CountAnswer
 pub fn write_record2(map: GridMap2, odds: &[f64], out: &mut [u8]) -> CountAnswer
     ensures { λ r. ⌜ writeOutcome r (now (out .exit)) ≡ Entries.writeRecordEntry (head2 map) (now (odds .entry)) (now (out .entry)) ⌝ }
 {
-    match head_check2(
-        Uses::WRITING,
-        map.extents,
-        map.model,
-        map.frame,
-        odds.len(),
-        0,
-    ) {
+    let e = map.extents;
+    match head_check2(Uses::WRITING, e, map.model, map.frame, odds.len(), 0) {
         Check::Refused(r) => CountAnswer::Refused(r),
         Check::Passed => write_passed2(map, odds, out),
     }
@@ -178,14 +172,8 @@ fn write_passed3(map: GridMap3, odds: &[f64], out: &mut [u8]) -> CountAnswer
 pub fn write_record3(map: GridMap3, odds: &[f64], out: &mut [u8]) -> CountAnswer
     ensures { λ r. ⌜ writeOutcome r (now (out .exit)) ≡ Entries.writeRecordEntry (head3 map) (now (odds .entry)) (now (out .entry)) ⌝ }
 {
-    match head_check3(
-        Uses::WRITING,
-        map.extents,
-        map.model,
-        map.frame,
-        odds.len(),
-        0,
-    ) {
+    let e = map.extents;
+    match head_check3(Uses::WRITING, e, map.model, map.frame, odds.len(), 0) {
         Check::Refused(r) => CountAnswer::Refused(r),
         Check::Passed => write_passed3(map, odds, out),
     }

@@ -17,10 +17,11 @@ use types::Model;
 pub fn outside(model: Model, x: f64) -> bool
     ensures { λ r. ⌜ r ≡ (lt x (floor (modelOf model)) || lt (model .ceiling) x) ⌝ }
 {
-    if x < -model.ceiling {
+    let ceiling = model.ceiling;
+    if x < -ceiling {
         return true;
     }
-    x > model.ceiling
+    x > ceiling
 }
 
 // The floats of a row, each within the bounds. The row's field stands whole.
@@ -43,7 +44,8 @@ fn row_in_bounds(bytes: &[u8], at: usize, width: usize, model: Model) -> bool
 // Whether a row's field stands whole at a place, with its odds within the bounds. The extents have passed, so a row is short.
 pub fn row_sound(bytes: &[u8], at: usize, width: usize, model: Model) -> bool
     requires { ⌜ width ≤ mostExtent ⌝ }
-    ensures { λ r. ⌜ r ≡ (fieldHere 4 (8 * width) (drop at (now (bytes .entry))) && oddsInBounds (modelOf model) (floatsIn width (drop 3 (drop at (now (bytes .entry)))))) ⌝ }
+    ensures { λ r. ⌜ r ≡ (fieldHere 4 (8 * width) (drop at (now (bytes .entry)))
+        && oddsInBounds (modelOf model) (floatsIn width (drop 3 (drop at (now (bytes .entry)))))) ⌝ }
 {
     if field_here(bytes, at, 4, 8 * width) {
         return row_in_bounds(bytes, at + 3, width, model);

@@ -26,7 +26,8 @@ same-length c = search needs
 returns : tie.Need-returns
 returns c =
     let a = c .before .before .before .before .before .before .before .before .before .before .before .before .before .before .before .args in
-    extents2-written (a .e .x) (a .e .y) (now (a .out)) _ _ _ (c .before .before .before .before .before .before .before .before .before .before .before .before .put-field .ensures) (c .before .before .before .before .before .before .before .put-u16 .ensures) (c .before .before .put-u162 .ensures)
+    let head = c .before .before .before .before .before .before .before .before .before .before .before .before .put-field .ensures in
+    extents2-written (a .e .x) (a .e .y) (now (a .out)) _ _ _ head (c .before .before .before .before .before .before .before .put-u16 .ensures) (c .before .before .put-u162 .ensures)
 
 pub put-extents2-spec : {M : Type 1} → statement M
 put-extents2-spec =

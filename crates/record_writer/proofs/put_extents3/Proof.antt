@@ -32,7 +32,10 @@ same-length c = search needs
 returns : tie.Need-returns
 returns c =
     let a = c .before .before .before .before .before .before .before .before .before .before .before .before .before .before .before .before .before .before .before .before .args in
-    extents3-written (a .e .x) (a .e .y) (a .e .z) (now (a .out)) _ _ _ _ (c .before .before .before .before .before .before .before .before .before .before .before .before .before .before .before .before .before .put-field .ensures) (c .before .before .before .before .before .before .before .before .before .before .before .before .put-u16 .ensures) (c .before .before .before .before .before .before .before .put-u162 .ensures) (c .before .before .put-u163 .ensures)
+    let head = c .before .before .before .before .before .before .before .before .before .before .before .before .before .before .before .before .before .put-field .ensures in
+    let x = c .before .before .before .before .before .before .before .before .before .before .before .before .put-u16 .ensures in
+    let y = c .before .before .before .before .before .before .before .put-u162 .ensures in
+    extents3-written (a .e .x) (a .e .y) (a .e .z) (now (a .out)) _ _ _ _ head x y (c .before .before .put-u163 .ensures)
 
 pub put-extents3-spec : {M : Type 1} → statement M
 put-extents3-spec =

@@ -33,7 +33,10 @@ same-length c = search needs
 returns : tie.Need-returns
 returns c =
     let a = c .before .before .before .before .before .before .before .before .before .before .before .before .before .before .before .before .before .args in
-    model-written (a .at) (now (a .out)) (modelOf (a .model)) _ _ _ _ (c .before .before .before .before .before .before .before .before .before .before .before .before .before .before .put-field .ensures) (c .before .before .before .before .before .before .before .before .before .before .put-f64 .ensures) (c .before .before .before .before .before .before .put-f642 .ensures) (c .before .before .put-f643 .ensures)
+    let head = c .before .before .before .before .before .before .before .before .before .before .before .before .before .before .put-field .ensures in
+    let occupied = c .before .before .before .before .before .before .before .before .before .before .put-f64 .ensures in
+    let free = c .before .before .before .before .before .before .put-f642 .ensures in
+    model-written (a .at) (now (a .out)) (modelOf (a .model)) _ _ _ _ head occupied free (c .before .before .put-f643 .ensures)
 
 pub put-model-spec : {M : Type 1} → statement M
 put-model-spec =

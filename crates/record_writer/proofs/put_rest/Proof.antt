@@ -45,8 +45,12 @@ same-length c = search needs
 returns : tie.Need-returns
 returns c =
     let a = c .before .before .before .before .before .before .before .before .before .before .before .before .before .before .before .before .before .before .args in
-    rest-written (modelOf (a .model)) (a .frame .0) (a .width) (a .count) (now (a .odds)) (c .before .before .before .before .before .before .before .before .before .before .before .before .before .before .before .before .before .before .pre .1 .0) (a .at) (now (a .out)) _ _ _ _
-    (c .before .before .before .before .before .before .before .before .before .before .before .before .before .before .put-model .ensures) (c .before .before .before .before .before .before .before .before .before .before .put-frame .ensures) (c .before .before .before .before .before .before .write-rows .ensures) (c .before .before .put-field .ensures)
+    let there = c .before .before .before .before .before .before .before .before .before .before .before .before .before .before .before .before .before .before .pre .1 .0 in
+    let model = c .before .before .before .before .before .before .before .before .before .before .before .before .before .before .put-model .ensures in
+    let frame = c .before .before .before .before .before .before .before .before .before .before .put-frame .ensures in
+    let rows = c .before .before .before .before .before .before .write-rows .ensures in
+    let end = c .before .before .put-field .ensures in
+    rest-written (modelOf (a .model)) (a .frame .0) (a .width) (a .count) (now (a .odds)) there (a .at) (now (a .out)) _ _ _ _ model frame rows end
 
 pub put-rest-spec : {M : Type 1} → statement M
 put-rest-spec =

@@ -40,21 +40,25 @@ returns : tie.Need-returns
 unfolding writableRows
 returns c =
     let a = c .before .before .before .before .before .args in
-    let fine = given-as (rowsChecked (modelOf (a .model)) (a .width) (a .count) (a .at) (now (a .odds))) (sym (c .before .before .before .rows-writable .ensures) ∙ ap checkOf (c .before .enum-told .given .1)) in
-    rw (fine, le-leb _ _ (c .if1 .taken)) refl
+    let checked = rowsChecked (modelOf (a .model)) (a .width) (a .count) (a .at) (now (a .odds)) in
+    let known = sym (c .before .before .before .rows-writable .ensures) ∙ ap checkOf (c .before .enum-told .given .1) in
+    rw (given-as checked known, le-leb _ _ (c .if1 .taken)) refl
 
 returns-2 : tie.Need-returns-2
 unfolding writableRows
 returns-2 c =
     let a = c .before .before .before .before .before .args in
-    rw (refused-as (rowsChecked (modelOf (a .model)) (a .width) (a .count) (a .at) (now (a .odds))) _ (sym (c .before .before .before .rows-writable .ensures) ∙ ap checkOf (c .before .r .given .1))) refl
+    let checked = rowsChecked (modelOf (a .model)) (a .width) (a .count) (a .at) (now (a .odds)) in
+    let known = sym (c .before .before .before .rows-writable .ensures) ∙ ap checkOf (c .before .r .given .1) in
+    rw (refused-as checked _ known) refl
 
 returns-3 : tie.Need-returns-3
 unfolding writableRows
 returns-3 c =
     let a = c .before .before .before .before .before .args in
-    let fine = given-as (rowsChecked (modelOf (a .model)) (a .width) (a .count) (a .at) (now (a .odds))) (sym (c .before .before .before .rows-writable .ensures) ∙ ap checkOf (c .before .enum-told .given .1)) in
-    rw (fine, lt-leb _ _ (c .if1 .left)) refl
+    let checked = rowsChecked (modelOf (a .model)) (a .width) (a .count) (a .at) (now (a .odds)) in
+    let known = sym (c .before .before .before .rows-writable .ensures) ∙ ap checkOf (c .before .enum-told .given .1) in
+    rw (given-as checked known, lt-leb _ _ (c .if1 .left)) refl
 
 pub size-if-writable-spec : {M : Type 1} → statement M
 size-if-writable-spec =

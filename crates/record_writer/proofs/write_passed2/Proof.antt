@@ -17,11 +17,13 @@ use Rattle.record_writer.proofs.write_passed2.Tie as tie
 
 size-if-writable-requires : tie.Need-size-if-writable-requires
 size-if-writable-requires c κs =
-    let p = (passed (usesOf writing) (head2 (c .before .before .before .args .map)) (length (now (c .before .before .before .args .odds))) 0 (c .before .before .before .pre)) in
-    let es = extents2 (c .before .before .before .args .map .extents) in
+    let a = c .before .before .before .args in
+    let e = a .map .extents in
+    let p = passed (usesOf writing) (head2 (a .map)) (length (now (a .odds))) 0 (c .before .before .before .pre) in
+    let shape = shape2 (extents2 e) e refl in
     let least = p .extents .0 .0 in
-    let few = small es (c .before .before .before .args .map .extents .x) (c .before .before .before .args .map .extents .y) (shape2 _ (c .before .before .before .args .map .extents) refl) (p .extents) (omega arith) in
-    (all-there es (c .before .before .before .args .map .extents .x) (c .before .before .before .args .map .extents .y) (now (c .before .before .before .args .odds)) (shape2 _ (c .before .before .before .args .map .extents) refl) (p .odds-count tt), (omega arith, p .extents .0 .1))
+    let few = small (extents2 e) (e .x) (e .y) shape (p .extents) (omega arith) in
+    (all-there (extents2 e) (e .x) (e .y) (now (a .odds)) shape (p .odds-count tt), (omega arith, p .extents .0 .1))
 
 enum-known-r : tie.Need-enum-known-r
 enum-known-r c = search needs
@@ -32,21 +34,30 @@ enum-known-size c = search needs
 put-extents2-requires : tie.Need-put-extents2-requires
 put-extents2-requires c κs =
     let a = c .before .before .before .before .before .before .before .before .args in
-    let room = given-room (modelOf (a .map .model)) (c .before .before .before .before .before .before .before .before .args .map .extents .x) (c .before .before .before .before .before .before .before .before .args .map .extents .y) 41 (now (a .odds)) (length (now (a .out))) _ (sym (c .before .before .before .before .size-if-writable .ensures) ∙ ap countAnswer (c .before .before .size .given .1)) in
-    (omega arith, (passed (usesOf writing) (head2 (c .before .before .before .before .before .before .before .before .args .map)) (length (now (c .before .before .before .before .before .before .before .before .args .odds))) 0 (c .before .before .before .before .before .before .before .before .pre)) .extents .0)
+    let e = a .map .extents in
+    let p = passed (usesOf writing) (head2 (a .map)) (length (now (a .odds))) 0 (c .before .before .before .before .before .before .before .before .pre) in
+    let shape = shape2 (extents2 e) e refl in
+    let given = sym (c .before .before .before .before .size-if-writable .ensures) ∙ ap countAnswer (c .before .before .size .given .1) in
+    let room = given-room (modelOf (a .map .model)) (e .x) (e .y) 41 (now (a .odds)) (length (now (a .out))) _ given in
+    (omega arith, p .extents .0)
 
 put-rest-requires : tie.Need-put-rest-requires
 put-rest-requires c κs =
     let a = c .before .before .before .before .before .before .before .before .before .before .before .before .args in
-    let p = (passed (usesOf writing) (head2 (c .before .before .before .before .before .before .before .before .before .before .before .before .args .map)) (length (now (c .before .before .before .before .before .before .before .before .before .before .before .before .args .odds))) 0 (c .before .before .before .before .before .before .before .before .before .before .before .before .pre)) in
-    let room = given-room (modelOf (a .map .model)) (c .before .before .before .before .before .before .before .before .before .before .before .before .args .map .extents .x) (c .before .before .before .before .before .before .before .before .before .before .before .before .args .map .extents .y) 41 (now (a .odds)) (length (now (a .out))) _ (sym (c .before .before .before .before .before .before .before .before .size-if-writable .ensures) ∙ ap countAnswer (c .before .before .before .before .before .before .size .given .1)) in
+    let e = a .map .extents in
+    let p = passed (usesOf writing) (head2 (a .map)) (length (now (a .odds))) 0 (c .before .before .before .before .before .before .before .before .before .before .before .before .pre) in
+    let shape = shape2 (extents2 e) e refl in
+    let given = sym (c .before .before .before .before .before .before .before .before .size-if-writable .ensures) ∙ ap countAnswer (c .before .before .before .before .before .before .size .given .1) in
+    let room = given-room (modelOf (a .map .model)) (e .x) (e .y) 41 (now (a .odds)) (length (now (a .out))) _ given in
     let kept = c .before .before .before .put-extents2 .kept .0 in
-    (omega arith, (all-there (extents2 (a .map .extents)) (c .before .before .before .before .before .before .before .before .before .before .before .before .args .map .extents .x) (c .before .before .before .before .before .before .before .before .before .before .before .before .args .map .extents .y) (now (a .odds)) (shape2 _ (c .before .before .before .before .before .before .before .before .before .before .before .before .args .map .extents) refl) (p .odds-count tt), p .extents .0 .1))
+    (omega arith, (all-there (extents2 e) (e .x) (e .y) (now (a .odds)) shape (p .odds-count tt), p .extents .0 .1))
 
 returns : tie.Need-returns
 returns c =
     let a = c .before .before .before .before .before .before .before .args in
-    not-written (head2 (a .map)) (now (a .odds)) (now (a .out)) (c .before .before .before .before .before .before .before .args .map .extents .x) (c .before .before .before .before .before .before .before .args .map .extents .y) (shape2 _ (c .before .before .before .before .before .before .before .args .map .extents) refl) _ (sym (c .before .before .before .size-if-writable .ensures) ∙ ap countAnswer (c .before .r .given .1))
+    let e = a .map .extents in
+    let why = sym (c .before .before .before .size-if-writable .ensures) ∙ ap countAnswer (c .before .r .given .1) in
+    not-written (head2 (a .map)) (now (a .odds)) (now (a .out)) (e .x) (e .y) (shape2 (extents2 e) e refl) _ why
 
 same-length : tie.Need-same-length
 same-length c = search needs
@@ -54,8 +65,14 @@ same-length c = search needs
 returns-2 : tie.Need-returns-2
 returns-2 c =
     let a = c .before .before .before .before .before .before .before .before .before .before .before .before .before .before .before .args in
-    let there = all-there (extents2 (a .map .extents)) (c .before .before .before .before .before .before .before .before .before .before .before .before .before .before .before .args .map .extents .x) (c .before .before .before .before .before .before .before .before .before .before .before .before .before .before .before .args .map .extents .y) (now (a .odds)) (shape2 _ (c .before .before .before .before .before .before .before .before .before .before .before .before .before .before .before .args .map .extents) refl) ((passed (usesOf writing) (head2 (c .before .before .before .before .before .before .before .before .before .before .before .before .before .before .before .args .map)) (length (now (c .before .before .before .before .before .before .before .before .before .before .before .before .before .before .before .args .odds))) 0 (c .before .before .before .before .before .before .before .before .before .before .before .before .before .before .before .pre)) .odds-count tt) in
-    written (head2 (a .map)) (now (a .odds)) (now (a .out)) (c .before .before .before .before .before .before .before .before .before .before .before .before .before .before .before .args .map .extents .x) (c .before .before .before .before .before .before .before .before .before .before .before .before .before .before .before .args .map .extents .y) (shape2 _ (c .before .before .before .before .before .before .before .before .before .before .before .before .before .before .before .args .map .extents) refl) _ _ _ there (sym (c .before .before .before .before .before .before .before .before .before .before .before .size-if-writable .ensures) ∙ ap countAnswer (c .before .before .before .before .before .before .before .before .before .size .given .1)) (c .before .before .before .before .before .before .put-extents2 .ensures) (c .before .before .put-rest .ensures)
+    let e = a .map .extents in
+    let p = passed (usesOf writing) (head2 (a .map)) (length (now (a .odds))) 0 (c .before .before .before .before .before .before .before .before .before .before .before .before .before .before .before .pre) in
+    let shape = shape2 (extents2 e) e refl in
+    let given = sym (c .before .before .before .before .before .before .before .before .before .before .before .size-if-writable .ensures) ∙ ap countAnswer (c .before .before .before .before .before .before .before .before .before .size .given .1) in
+    let there = all-there (extents2 e) (e .x) (e .y) (now (a .odds)) shape (p .odds-count tt) in
+    written (head2 (a .map)) (now (a .odds)) (now (a .out)) (e .x) (e .y) shape _ _ _ there given
+    (c .before .before .before .before .before .before .put-extents2 .ensures)
+    (c .before .before .put-rest .ensures)
 
 pub write-passed2-spec : {M : Type 1} → statement M
 write-passed2-spec =

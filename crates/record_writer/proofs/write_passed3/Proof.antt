@@ -20,16 +20,19 @@ use Rattle.record_writer.proofs.write_passed3.Tie as tie
 
 mul-count : tie.Need-mul-count
 mul-count c =
-    let p = (passed (usesOf writing) (head3 (c .before .before .before .before .args .map)) (length (now (c .before .before .before .before .args .odds))) 0 (c .before .before .before .before .pre)) in
+    let a = c .before .before .before .before .args in
+    let p = passed (usesOf writing) (head3 (a .map)) (length (now (a .odds))) 0 (c .before .before .before .before .pre) in
     fits-le (mul-le-mul (p .extents .0 .2 .1) (p .extents .0 .2 .2 .1)) (fits-lit {n = 4096 * 4096} tt)
 
 size-if-writable-requires : tie.Need-size-if-writable-requires
 size-if-writable-requires c κs =
-    let p = (passed (usesOf writing) (head3 (c .before .before .before .before .args .map)) (length (now (c .before .before .before .before .args .odds))) 0 (c .before .before .before .before .pre)) in
-    let es = extents3 (c .before .before .before .before .args .map .extents) in
+    let a = c .before .before .before .before .args in
+    let e = a .map .extents in
+    let p = passed (usesOf writing) (head3 (a .map)) (length (now (a .odds))) 0 (c .before .before .before .before .pre) in
+    let shape = shape3 (extents3 e) e refl in
     let least = p .extents .0 .0 in
-    let few = small es (c .before .before .before .before .args .map .extents .x) (c .before .before .before .before .args .map .extents .y * c .before .before .before .before .args .map .extents .z) (shape3 _ (c .before .before .before .before .args .map .extents) refl) (p .extents) (omega arith) in
-    (all-there es (c .before .before .before .before .args .map .extents .x) (c .before .before .before .before .args .map .extents .y * c .before .before .before .before .args .map .extents .z) (now (c .before .before .before .before .args .odds)) (shape3 _ (c .before .before .before .before .args .map .extents) refl) (p .odds-count tt), (omega arith, p .extents .0 .1))
+    let few = small (extents3 e) (e .x) (e .y * e .z) shape (p .extents) (omega arith) in
+    (all-there (extents3 e) (e .x) (e .y * e .z) (now (a .odds)) shape (p .odds-count tt), (omega arith, p .extents .0 .1))
 
 enum-known-r : tie.Need-enum-known-r
 enum-known-r c = search needs
@@ -40,21 +43,30 @@ enum-known-size c = search needs
 put-extents3-requires : tie.Need-put-extents3-requires
 put-extents3-requires c κs =
     let a = c .before .before .before .before .before .before .before .before .before .args in
-    let room = given-room (modelOf (a .map .model)) (c .before .before .before .before .before .before .before .before .before .args .map .extents .x) (c .before .before .before .before .before .before .before .before .before .args .map .extents .y * c .before .before .before .before .before .before .before .before .before .args .map .extents .z) 43 (now (a .odds)) (length (now (a .out))) _ (sym (c .before .before .before .before .size-if-writable .ensures) ∙ ap countAnswer (c .before .before .size .given .1)) in
-    (omega arith, (passed (usesOf writing) (head3 (c .before .before .before .before .before .before .before .before .before .args .map)) (length (now (c .before .before .before .before .before .before .before .before .before .args .odds))) 0 (c .before .before .before .before .before .before .before .before .before .pre)) .extents .0)
+    let e = a .map .extents in
+    let p = passed (usesOf writing) (head3 (a .map)) (length (now (a .odds))) 0 (c .before .before .before .before .before .before .before .before .before .pre) in
+    let shape = shape3 (extents3 e) e refl in
+    let given = sym (c .before .before .before .before .size-if-writable .ensures) ∙ ap countAnswer (c .before .before .size .given .1) in
+    let room = given-room (modelOf (a .map .model)) (e .x) (e .y * e .z) 43 (now (a .odds)) (length (now (a .out))) _ given in
+    (omega arith, p .extents .0)
 
 put-rest-requires : tie.Need-put-rest-requires
 put-rest-requires c κs =
     let a = c .before .before .before .before .before .before .before .before .before .before .before .before .before .args in
-    let p = (passed (usesOf writing) (head3 (c .before .before .before .before .before .before .before .before .before .before .before .before .before .args .map)) (length (now (c .before .before .before .before .before .before .before .before .before .before .before .before .before .args .odds))) 0 (c .before .before .before .before .before .before .before .before .before .before .before .before .before .pre)) in
-    let room = given-room (modelOf (a .map .model)) (c .before .before .before .before .before .before .before .before .before .before .before .before .before .args .map .extents .x) (c .before .before .before .before .before .before .before .before .before .before .before .before .before .args .map .extents .y * c .before .before .before .before .before .before .before .before .before .before .before .before .before .args .map .extents .z) 43 (now (a .odds)) (length (now (a .out))) _ (sym (c .before .before .before .before .before .before .before .before .size-if-writable .ensures) ∙ ap countAnswer (c .before .before .before .before .before .before .size .given .1)) in
+    let e = a .map .extents in
+    let p = passed (usesOf writing) (head3 (a .map)) (length (now (a .odds))) 0 (c .before .before .before .before .before .before .before .before .before .before .before .before .before .pre) in
+    let shape = shape3 (extents3 e) e refl in
+    let given = sym (c .before .before .before .before .before .before .before .before .size-if-writable .ensures) ∙ ap countAnswer (c .before .before .before .before .before .before .size .given .1) in
+    let room = given-room (modelOf (a .map .model)) (e .x) (e .y * e .z) 43 (now (a .odds)) (length (now (a .out))) _ given in
     let kept = c .before .before .before .put-extents3 .kept .0 in
-    (omega arith, (all-there (extents3 (a .map .extents)) (c .before .before .before .before .before .before .before .before .before .before .before .before .before .args .map .extents .x) (c .before .before .before .before .before .before .before .before .before .before .before .before .before .args .map .extents .y * c .before .before .before .before .before .before .before .before .before .before .before .before .before .args .map .extents .z) (now (a .odds)) (shape3 _ (c .before .before .before .before .before .before .before .before .before .before .before .before .before .args .map .extents) refl) (p .odds-count tt), p .extents .0 .1))
+    (omega arith, (all-there (extents3 e) (e .x) (e .y * e .z) (now (a .odds)) shape (p .odds-count tt), p .extents .0 .1))
 
 returns : tie.Need-returns
 returns c =
     let a = c .before .before .before .before .before .before .before .before .args in
-    not-written (head3 (a .map)) (now (a .odds)) (now (a .out)) (c .before .before .before .before .before .before .before .before .args .map .extents .x) (c .before .before .before .before .before .before .before .before .args .map .extents .y * c .before .before .before .before .before .before .before .before .args .map .extents .z) (shape3 _ (c .before .before .before .before .before .before .before .before .args .map .extents) refl) _ (sym (c .before .before .before .size-if-writable .ensures) ∙ ap countAnswer (c .before .r .given .1))
+    let e = a .map .extents in
+    let why = sym (c .before .before .before .size-if-writable .ensures) ∙ ap countAnswer (c .before .r .given .1) in
+    not-written (head3 (a .map)) (now (a .odds)) (now (a .out)) (e .x) (e .y * e .z) (shape3 (extents3 e) e refl) _ why
 
 same-length : tie.Need-same-length
 same-length c = search needs
@@ -62,8 +74,14 @@ same-length c = search needs
 returns-2 : tie.Need-returns-2
 returns-2 c =
     let a = c .before .before .before .before .before .before .before .before .before .before .before .before .before .before .before .before .args in
-    let there = all-there (extents3 (a .map .extents)) (c .before .before .before .before .before .before .before .before .before .before .before .before .before .before .before .before .args .map .extents .x) (c .before .before .before .before .before .before .before .before .before .before .before .before .before .before .before .before .args .map .extents .y * c .before .before .before .before .before .before .before .before .before .before .before .before .before .before .before .before .args .map .extents .z) (now (a .odds)) (shape3 _ (c .before .before .before .before .before .before .before .before .before .before .before .before .before .before .before .before .args .map .extents) refl) ((passed (usesOf writing) (head3 (c .before .before .before .before .before .before .before .before .before .before .before .before .before .before .before .before .args .map)) (length (now (c .before .before .before .before .before .before .before .before .before .before .before .before .before .before .before .before .args .odds))) 0 (c .before .before .before .before .before .before .before .before .before .before .before .before .before .before .before .before .pre)) .odds-count tt) in
-    written (head3 (a .map)) (now (a .odds)) (now (a .out)) (c .before .before .before .before .before .before .before .before .before .before .before .before .before .before .before .before .args .map .extents .x) (c .before .before .before .before .before .before .before .before .before .before .before .before .before .before .before .before .args .map .extents .y * c .before .before .before .before .before .before .before .before .before .before .before .before .before .before .before .before .args .map .extents .z) (shape3 _ (c .before .before .before .before .before .before .before .before .before .before .before .before .before .before .before .before .args .map .extents) refl) _ _ _ there (sym (c .before .before .before .before .before .before .before .before .before .before .before .size-if-writable .ensures) ∙ ap countAnswer (c .before .before .before .before .before .before .before .before .before .size .given .1)) (c .before .before .before .before .before .before .put-extents3 .ensures) (c .before .before .put-rest .ensures)
+    let e = a .map .extents in
+    let p = passed (usesOf writing) (head3 (a .map)) (length (now (a .odds))) 0 (c .before .before .before .before .before .before .before .before .before .before .before .before .before .before .before .before .pre) in
+    let shape = shape3 (extents3 e) e refl in
+    let given = sym (c .before .before .before .before .before .before .before .before .before .before .before .size-if-writable .ensures) ∙ ap countAnswer (c .before .before .before .before .before .before .before .before .before .size .given .1) in
+    let there = all-there (extents3 e) (e .x) (e .y * e .z) (now (a .odds)) shape (p .odds-count tt) in
+    written (head3 (a .map)) (now (a .odds)) (now (a .out)) (e .x) (e .y * e .z) shape _ _ _ there given
+    (c .before .before .before .before .before .before .put-extents3 .ensures)
+    (c .before .before .put-rest .ensures)
 
 pub write-passed3-spec : {M : Type 1} → statement M
 write-passed3-spec =

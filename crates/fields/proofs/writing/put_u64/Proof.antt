@@ -1,11 +1,12 @@
 -- Two halves.
 use Prim.Native.Nat.{_/_, _%_}
 use mathlib.Core.Path.{sym, ap, _∙_}
+use native.Mathlib.Omega.{arith}
 use denote.Ref.{now}
 use lib.Seq.{sets}
 use borrow.Author.Needs.{needs}
 use Rattle.rules.specs.MapRecord.{littleEndian}
-use Rattle.fields.proofs.Bytes.{length-little, little-eight}
+use Rattle.fields.proofs.Bytes.{length-little, little-split}
 use Rattle.fields.proofs.Stores.{two-runs}
 use Rattle.fields.proofs.writing.put_u64.Statement.{statement}
 use Rattle.fields.proofs.writing.put_u64.Tie as tie
@@ -31,8 +32,10 @@ same-length c = search needs
 returns : tie.Need-returns
 returns c =
     let a = c .before .before .before .before .before .before .before .before .before .args in
-    two-runs (littleEndian 4 (a .n % 4_294_967_296)) (littleEndian 4 (a .n / 4_294_967_296)) (now (a .out)) _ _ (a .at) 4 (length-little 4 (a .n % 4_294_967_296)) (c .before .before .before .before .before .before .put-u32 .ensures) (c .before .before .put-u322 .ensures)
-    ∙ ap (sets (now (a .out)) (a .at)) (sym (little-eight (a .n)))
+    let low = littleEndian 4 (a .n % 4_294_967_296) in
+    let high = littleEndian 4 (a .n / 4_294_967_296) in
+    two-runs low high (now (a .out)) _ _ (a .at) 4 (length-little 4 (a .n % 4_294_967_296)) (c .before .before .before .before .before .before .put-u32 .ensures) (c .before .before .put-u322 .ensures)
+    ∙ ap (sets (now (a .out)) (a .at)) (sym (little-split 4 4 (a .n) (omega arith)))
 
 pub put-u64-spec : {M : Type 1} → statement M
 put-u64-spec =

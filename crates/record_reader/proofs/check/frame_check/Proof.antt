@@ -39,9 +39,10 @@ rows-check-requires c κs = search needs
 returns : tie.Need-returns
 returns c =
     let a = c .before .before .before .before .before .before .before .args in
-    c .rows-check .ensures
-    ∙ sym (frame-step (a .width) (a .count) (a .at) (now (a .bytes)) (modelOf (a .model)) (c .before .before .before .u32-at .result) (c .before .before .before .u32-at .ensures)
-    ∙ rw (sym (c .before .before .before .before .before .field-here .ensures) ∙ c .before .before .before .before .if1 .taken, sym (c .before .before .is-open .ensures) ∙ c .before .if2 .taken) refl)
+    let step = frame-step (a .width) (a .count) (a .at) (now (a .bytes)) (modelOf (a .model)) (c .before .before .before .u32-at .result) (c .before .before .before .u32-at .ensures) in
+    let here = sym (c .before .before .before .before .before .field-here .ensures) ∙ c .before .before .before .before .if1 .taken in
+    let opened = sym (c .before .before .is-open .ensures) ∙ c .before .if2 .taken in
+    c .rows-check .ensures ∙ sym (step ∙ rw (here, opened) refl)
 
 broken-requires : tie.Need-broken-requires
 broken-requires c κs = search needs
@@ -49,9 +50,10 @@ broken-requires c κs = search needs
 returns-2 : tie.Need-returns-2
 returns-2 c =
     let a = c .before .before .before .before .before .before .before .args in
-    c .broken .ensures
-    ∙ sym (frame-step (a .width) (a .count) (a .at) (now (a .bytes)) (modelOf (a .model)) (c .before .before .before .u32-at .result) (c .before .before .before .u32-at .ensures)
-    ∙ rw (sym (c .before .before .before .before .before .field-here .ensures) ∙ c .before .before .before .before .if1 .taken, sym (c .before .before .is-open .ensures) ∙ c .before .if2 .left) refl)
+    let step = frame-step (a .width) (a .count) (a .at) (now (a .bytes)) (modelOf (a .model)) (c .before .before .before .u32-at .result) (c .before .before .before .u32-at .ensures) in
+    let here = sym (c .before .before .before .before .before .field-here .ensures) ∙ c .before .before .before .before .if1 .taken in
+    let opened = sym (c .before .before .is-open .ensures) ∙ c .before .if2 .left in
+    c .broken .ensures ∙ sym (step ∙ rw (here, opened) refl)
 
 broken-requires-2 : tie.Need-broken-requires-2
 broken-requires-2 c κs = search needs
@@ -59,8 +61,9 @@ broken-requires-2 c κs = search needs
 returns-3 : tie.Need-returns-3
 returns-3 c =
     let a = c .before .before .before .before .args in
-    c .broken2 .ensures
-    ∙ sym (frame-step (a .width) (a .count) (a .at) (now (a .bytes)) (modelOf (a .model)) _ refl ∙ rw (sym (c .before .before .field-here .ensures) ∙ c .before .if1 .left) refl)
+    let step = frame-step (a .width) (a .count) (a .at) (now (a .bytes)) (modelOf (a .model)) _ refl in
+    let here = sym (c .before .before .field-here .ensures) ∙ c .before .if1 .left in
+    c .broken2 .ensures ∙ sym (step ∙ rw here refl)
 
 pub frame-check-spec : {M : Type 1} → statement M
 frame-check-spec =

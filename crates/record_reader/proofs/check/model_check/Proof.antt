@@ -39,9 +39,10 @@ frame-check-requires c κs = search needs
 returns : tie.Need-returns
 returns c =
     let a = c .before .before .before .before .before .before .before .args in
-    c .frame-check .ensures
-    ∙ sym (model-step (a .width) (a .count) (a .at) (now (a .bytes)) (modelOf (c .before .before .before .model-at .result)) (c .before .before .before .model-at .ensures)
-    ∙ rw (sym (c .before .before .before .before .before .field-here .ensures) ∙ c .before .before .before .before .if1 .taken, sym (c .before .before .is-bounded .ensures) ∙ c .before .if2 .taken) refl)
+    let step = model-step (a .width) (a .count) (a .at) (now (a .bytes)) (modelOf (c .before .before .before .model-at .result)) (c .before .before .before .model-at .ensures) in
+    let here = sym (c .before .before .before .before .before .field-here .ensures) ∙ c .before .before .before .before .if1 .taken in
+    let held = sym (c .before .before .is-bounded .ensures) ∙ c .before .if2 .taken in
+    c .frame-check .ensures ∙ sym (step ∙ rw (here, held) refl)
 
 broken-requires : tie.Need-broken-requires
 broken-requires c κs = search needs
@@ -49,9 +50,10 @@ broken-requires c κs = search needs
 returns-2 : tie.Need-returns-2
 returns-2 c =
     let a = c .before .before .before .before .before .before .before .args in
-    c .broken .ensures
-    ∙ sym (model-step (a .width) (a .count) (a .at) (now (a .bytes)) (modelOf (c .before .before .before .model-at .result)) (c .before .before .before .model-at .ensures)
-    ∙ rw (sym (c .before .before .before .before .before .field-here .ensures) ∙ c .before .before .before .before .if1 .taken, sym (c .before .before .is-bounded .ensures) ∙ c .before .if2 .left) refl)
+    let step = model-step (a .width) (a .count) (a .at) (now (a .bytes)) (modelOf (c .before .before .before .model-at .result)) (c .before .before .before .model-at .ensures) in
+    let here = sym (c .before .before .before .before .before .field-here .ensures) ∙ c .before .before .before .before .if1 .taken in
+    let held = sym (c .before .before .is-bounded .ensures) ∙ c .before .if2 .left in
+    c .broken .ensures ∙ sym (step ∙ rw (here, held) refl)
 
 broken-requires-2 : tie.Need-broken-requires-2
 broken-requires-2 c κs = search needs
@@ -59,8 +61,9 @@ broken-requires-2 c κs = search needs
 returns-3 : tie.Need-returns-3
 returns-3 c =
     let a = c .before .before .before .before .args in
-    c .broken2 .ensures
-    ∙ sym (model-step (a .width) (a .count) (a .at) (now (a .bytes)) _ refl ∙ rw (sym (c .before .before .field-here .ensures) ∙ c .before .if1 .left) refl)
+    let step = model-step (a .width) (a .count) (a .at) (now (a .bytes)) _ refl in
+    let here = sym (c .before .before .field-here .ensures) ∙ c .before .if1 .left in
+    c .broken2 .ensures ∙ sym (step ∙ rw here refl)
 
 pub model-check-spec : {M : Type 1} → statement M
 model-check-spec =

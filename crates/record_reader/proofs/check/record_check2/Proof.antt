@@ -41,22 +41,25 @@ returns : tie.Need-returns
 returns c =
     let b = now (c .before .before .before .before .before .before .before .before .args .bytes) in
     let e = c .before .before .before .before .extents-at2 .ensures in
-    c .model-check .ensures
-    ∙ sym (extents-held 2 b _ _ (shape2 _ (c .before .before .before .before .extents-at2 .result) e) (sym (c .before .before .before .before .before .before .field-here .ensures) ∙ c .before .before .before .before .before .if1 .taken)
-    (ap extentsRefusal (sym e) ∙ sym (c .before .before .before .extents-check2 .ensures) ∙ ap checkOf (c .before .enum-told .given .1)))
+    let here = sym (c .before .before .before .before .before .before .field-here .ensures) ∙ c .before .before .before .before .before .if1 .taken in
+    let held = ap extentsRefusal (sym e) ∙ sym (c .before .before .before .extents-check2 .ensures) ∙ ap checkOf (c .before .enum-told .given .1) in
+    c .model-check .ensures ∙ sym (extents-held 2 b _ _ (shape2 _ (c .before .before .before .before .extents-at2 .result) e) here held)
 
 returns-2 : tie.Need-returns-2
 returns-2 c =
     let b = now (c .before .before .before .before .before .before .before .before .args .bytes) in
-    c .broken .ensures
-    ∙ sym (extents-refused 2 b _ (sym (c .before .before .before .before .before .before .field-here .ensures) ∙ c .before .before .before .before .before .if1 .taken)
-    (ap extentsRefusal (sym (c .before .before .before .before .extents-at2 .ensures)) ∙ sym (c .before .before .before .extents-check2 .ensures) ∙ ap checkOf (c .before .enum-told2 .given .1)))
+    let e = c .before .before .before .before .extents-at2 .ensures in
+    let here = sym (c .before .before .before .before .before .before .field-here .ensures) ∙ c .before .before .before .before .before .if1 .taken in
+    let held = ap extentsRefusal (sym e) ∙ sym (c .before .before .before .extents-check2 .ensures) ∙ ap checkOf (c .before .enum-told2 .given .1) in
+    c .broken .ensures ∙ sym (extents-refused 2 b _ here held)
 
 broken-requires-2 : tie.Need-broken-requires-2
 broken-requires-2 c κs = search needs
 
 returns-3 : tie.Need-returns-3
-returns-3 c = c .broken2 .ensures ∙ sym (first-absent 2 (now (c .before .before .before .before .args .bytes)) (sym (c .before .before .field-here .ensures) ∙ c .before .if1 .left))
+returns-3 c =
+    let here = sym (c .before .before .field-here .ensures) ∙ c .before .if1 .left in
+    c .broken2 .ensures ∙ sym (first-absent 2 (now (c .before .before .before .before .args .bytes)) here)
 
 pub record-check2-spec : {M : Type 1} → statement M
 record-check2-spec =

@@ -19,14 +19,22 @@ extents-at2-requires c κs =
 
 mul-if1 : tie.Need-mul-if1
 mul-if1 c =
-    let b = now (c .before .before .before .before .args .bytes) in
-    let most = few _ (c .extents-at2 .result .x) (c .extents-at2 .result .y) (shape2 _ (c .extents-at2 .result) (c .extents-at2 .ensures)) (sound 2 b (c .before .before .before .before .pre) .extents) in
+    let a = c .before .before .before .before .args in
+    let b = now (a .bytes) in
+    let e = c .extents-at2 .result in
+    let s = sound 2 b (c .before .before .before .before .pre) in
+    let shape = shape2 _ e (c .extents-at2 .ensures) in
+    let most = few _ (e .x) (e .y) shape (s .extents) in
     omega arith
 
 returns : tie.Need-returns
 returns c =
     let a = c .before .before .before .before .before .args in
-    odds-wrong 2 (now (a .bytes)) (sound 2 (now (a .bytes)) (c .before .before .before .before .before .pre)) (c .before .extents-at2 .result .x) (c .before .extents-at2 .result .y) (shape2 _ (c .before .extents-at2 .result) (c .before .extents-at2 .ensures)) (now (a .odds)) (now (a .stamps)) (c .if1 .taken)
+    let b = now (a .bytes) in
+    let e = c .before .extents-at2 .result in
+    let s = sound 2 b (c .before .before .before .before .before .pre) in
+    let shape = shape2 _ e (c .before .extents-at2 .ensures) in
+    odds-wrong 2 b s (e .x) (e .y) shape (now (a .odds)) (now (a .stamps)) (c .if1 .taken)
 
 mul-if2 : tie.Need-mul-if2
 mul-if2 c = search needs
@@ -34,16 +42,22 @@ mul-if2 c = search needs
 returns-2 : tie.Need-returns-2
 returns-2 c =
     let a = c .before .before .before .before .before .before .args in
-    stamps-wrong 2 (now (a .bytes)) (sound 2 (now (a .bytes)) (c .before .before .before .before .before .before .pre)) (c .before .before .extents-at2 .result .x) (c .before .before .extents-at2 .result .y) (shape2 _ (c .before .before .extents-at2 .result) (c .before .before .extents-at2 .ensures)) (now (a .odds)) (now (a .stamps)) (c .before .if1 .left) (c .if2 .taken)
+    let b = now (a .bytes) in
+    let e = c .before .before .extents-at2 .result in
+    let s = sound 2 b (c .before .before .before .before .before .before .pre) in
+    let shape = shape2 _ e (c .before .before .extents-at2 .ensures) in
+    stamps-wrong 2 b s (e .x) (e .y) shape (now (a .odds)) (now (a .stamps)) (c .before .if1 .left) (c .if2 .taken)
 
 read-rows-requires : tie.Need-read-rows-requires
 read-rows-requires c κs =
-    let b = now (c .before .before .before .before .before .before .before .args .bytes) in
+    let a = c .before .before .before .before .before .before .before .args in
+    let b = now (a .bytes) in
+    let e = c .before .before .before .extents-at2 .result in
     let s = sound 2 b (c .before .before .before .before .before .before .before .pre) in
-    let fits = rows-fit 2 b s (c .before .before .before .extents-at2 .result .x) (c .before .before .before .extents-at2 .result .y) (shape2 _ (c .before .before .before .extents-at2 .result) (c .before .before .before .extents-at2 .ensures)) in
-    let swap = mul-comm (c .before .before .before .extents-at2 .result .x) (c .before .before .before .extents-at2 .result .y) in
+    let shape = shape2 _ e (c .before .before .before .extents-at2 .ensures) in
+    let swap = mul-comm (e .x) (e .y) in
     let one = c .before .before .if1 .left in
-    (fits, omega arith)
+    (rows-fit 2 b s (e .x) (e .y) shape, omega arith)
 
 clear-stamps-requires : tie.Need-clear-stamps-requires
 clear-stamps-requires c κs = search needs
@@ -69,9 +83,16 @@ same-length-2 c = search needs
 returns-3 : tie.Need-returns-3
 returns-3 c =
     let a = c .before .before .before .before .before .before .before .before .before .before .before .before .before .before .before .before .args in
-    all-read 2 (now (a .bytes)) (sound 2 (now (a .bytes)) (c .before .before .before .before .before .before .before .before .before .before .before .before .before .before .before .before .pre)) (c .before .before .before .before .before .before .before .before .before .before .before .before .extents-at2 .result .x) (c .before .before .before .before .before .before .before .before .before .before .before .before .extents-at2 .result .y) (shape2 _ (c .before .before .before .before .before .before .before .before .before .before .before .before .extents-at2 .result) (c .before .before .before .before .before .before .before .before .before .before .before .before .extents-at2 .ensures)) (now (a .odds)) (now (a .stamps))
-    _ (modelOf (c .before .model-at .result)) _ _ _ (c .before .before .before .before .before .before .before .before .before .before .before .if1 .left) (c .before .before .before .before .before .before .before .before .before .before .if2 .left) (c .before .before .before .before .before .before .before .before .before .before .before .before .extents-at2 .ensures)
-    (c .before .model-at .ensures) (c .u32-at .ensures) (c .before .before .before .before .before .before .before .before .read-rows .ensures) (c .before .before .before .before .clear-stamps .ensures)
+    let b = now (a .bytes) in
+    let e = c .before .before .before .before .before .before .before .before .before .before .before .before .extents-at2 .result in
+    let s = sound 2 b (c .before .before .before .before .before .before .before .before .before .before .before .before .before .before .before .before .pre) in
+    let shape = shape2 _ e (c .before .before .before .before .before .before .before .before .before .before .before .before .extents-at2 .ensures) in
+    all-read 2 b s (e .x) (e .y) shape (now (a .odds)) (now (a .stamps)) _ (modelOf (c .before .model-at .result)) _ _ _
+    (c .before .before .before .before .before .before .before .before .before .before .before .if1 .left) (c .before .before .before .before .before .before .before .before .before .before .if2 .left)
+    (c .before .before .before .before .before .before .before .before .before .before .before .before .extents-at2 .ensures)
+    (c .before .model-at .ensures) (c .u32-at .ensures)
+    (c .before .before .before .before .before .before .before .before .read-rows .ensures)
+    (c .before .before .before .before .clear-stamps .ensures)
 
 pub read-sound2-spec : {M : Type 1} → statement M
 read-sound2-spec =

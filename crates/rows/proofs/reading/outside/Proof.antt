@@ -10,7 +10,7 @@ returns c = rw (c .if1 .taken) refl
 
 returns-2 : tie.Need-returns-2
 unfolding floor
-returns-2 c = rw (c .before .if1 .left) refl
+returns-2 c = rw (c .if1 .left) refl
 
 pub outside-spec : {M : Type 1} → statement M
 outside-spec = tie.close (tie.spec returns returns-2)

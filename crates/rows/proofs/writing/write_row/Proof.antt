@@ -34,10 +34,12 @@ same-length c = search needs
 returns : tie.Need-returns
 returns c =
     let a = c .before .before .before .before .before .before .before .before .before .before .args in
+    let n = 8 * a .width in
     let part = take (a .width) (drop (a .from) (now (a .odds))) in
     let size = length-float-bytes part ∙ ap (λ k. 8 * k) (length-part (a .width) (a .from) (now (a .odds)) (c .before .before .before .before .before .before .before .before .before .before .pre .1 .0)) in
-    two-runs (4 ∷ littleEndian 2 (8 * a .width)) (floatBytes part) (now (a .out)) _ _ (a .at) 3 (ap suc (length-little 2 (8 * a .width))) (c .before .before .before .before .before .before .put-field .ensures) (c .before .before .write-floats .ensures)
-    ∙ ap (sets (now (a .out)) (a .at)) (sym (field-of 4 (8 * a .width) (floatBytes part) size))
+    let head = c .before .before .before .before .before .before .put-field .ensures in
+    two-runs (4 ∷ littleEndian 2 n) (floatBytes part) (now (a .out)) _ _ (a .at) 3 (ap suc (length-little 2 n)) head (c .before .before .write-floats .ensures)
+    ∙ ap (sets (now (a .out)) (a .at)) (sym (field-of 4 n (floatBytes part) size))
 
 pub write-row-spec : {M : Type 1} → statement M
 write-row-spec =
