@@ -15,6 +15,7 @@ use types::Refusal;
 mod beams;
 mod cells;
 mod lines;
+mod record;
 mod sweep;
 
 fn text(bytes: &[u8]) {
@@ -126,5 +127,6 @@ fn main() {
     cells::samples();
     cells::places();
     cells::openings();
+    record::record();
     sweep::sweep();
 }
