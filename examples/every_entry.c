@@ -1,5 +1,5 @@
 /*
- * Every function of tembuzar.h once, in two axes and in three, each with what it is expected to answer in brackets. The numbers in a
+ * Every function of tembuzar.h, in two axes and in three, each with what it is expected to answer in brackets. The numbers in a
  * call differ from each other, so that a field in the wrong place would show.
  *
  * Build and run, from the repository's root on x86-64 Linux:
@@ -9,12 +9,37 @@
  */
 #include <math.h>
 #include <stdio.h>
+#include <string.h>
 
 #include "tembuzar.h"
 
 static double odds[5 * 4 * 3];
 static uint32_t stamps[5 * 4 * 3];
+static double odds_read[5 * 4 * 3];
+static uint32_t stamps_read[5 * 4 * 3];
+static uint8_t bytes[600];
 static const tembuzar_model model = {.occupied = 0.75, .free = -0.5, .ceiling = 4.0};
+
+static void record_of_two_axes(tembuzar_map2 map)
+{
+    enum { CELLS = 5 * 4, BYTES = 41 + 4 * (3 + 8 * 5) + 3 };
+    memset(bytes, 170, sizeof bytes);
+    memset(stamps_read, 170, sizeof stamps_read);
+    tembuzar_count_answer n = tembuzar_write_record2(map, odds, CELLS, bytes, BYTES - 1);
+    printf("write_record number %u, values %u, bytes %lu, first byte %u [11, 1, 216, 170]\n",
+           n.refusal.number, n.refusal.values, n.refusal.bytes, bytes[0]);
+    n = tembuzar_write_record2(map, odds, CELLS, bytes, sizeof bytes);
+    printf("write_record number %u, count %lu, extents %u %u, frame %u, end %u, next %u [0, 216, 5 4, 2, 5, 170]\n",
+           n.refusal.number, n.count, bytes[3], bytes[5], bytes[37], bytes[BYTES - 3], bytes[BYTES]);
+    tembuzar_map_answer2 m = tembuzar_read_record2(bytes, 100, odds_read, CELLS, stamps_read, CELLS);
+    printf("read_record  number %u, values %u, bytes %lu, odds %g, stamp %x [10, 1, 84, 0, aaaaaaaa]\n",
+           m.refusal.number, m.refusal.values, m.refusal.bytes, odds_read[11], stamps_read[11]);
+    m = tembuzar_read_record2(bytes, BYTES, odds_read, CELLS, stamps_read, CELLS);
+    printf("read_record  number %u, %lu by %lu, model %g %g %g, frame %u [0, 5 by 4, 0.75 -0.5 4, 2]\n", m.refusal.number,
+           m.map.extents.x, m.map.extents.y, m.map.model.occupied, m.map.model.free, m.map.model.ceiling, m.map.frame);
+    printf("             odds %g, all as written %d, stamp %x [0.75, 1, 0]\n",
+           odds_read[11], memcmp(odds, odds_read, CELLS * sizeof *odds) == 0, stamps_read[11]);
+}
 
 static void two_axes(void)
 {
@@ -59,9 +84,33 @@ static void two_axes(void)
     for (; t.found; t = tembuzar_step2(t.line))
         printf(" (%ld,%ld)", t.cell.x, t.cell.y);
     printf(", then none [(0,0) (0,0) (-1,1)]\n");
+    record_of_two_axes(m.map);
     m = tembuzar_reset2(m.map, odds, CELLS, stamps, CELLS);
     printf("reset        number %u, frame %u, odds %g, stamp %u [0, 1, 0, 0]\n",
            m.refusal.number, m.map.frame, odds[11], stamps[11]);
+}
+
+static void record_of_three_axes(tembuzar_map3 map)
+{
+    enum { CELLS = 5 * 4 * 3, BYTES = 43 + 4 * 3 * (3 + 8 * 5) + 3 };
+    memset(bytes, 170, sizeof bytes);
+    memset(odds_read, 0, sizeof odds_read);
+    memset(stamps_read, 170, sizeof stamps_read);
+    tembuzar_count_answer n = tembuzar_write_record3(map, odds, CELLS, bytes, BYTES - 1);
+    printf("write_record number %u, values %u, bytes %lu, first byte %u [11, 1, 562, 170]\n",
+           n.refusal.number, n.refusal.values, n.refusal.bytes, bytes[0]);
+    n = tembuzar_write_record3(map, odds, CELLS, bytes, sizeof bytes);
+    printf("write_record number %u, count %lu, extents %u %u %u, frame %u, end %u, next %u [0, 562, 5 4 3, 2, 5, 170]\n",
+           n.refusal.number, n.count, bytes[3], bytes[5], bytes[7], bytes[39], bytes[BYTES - 3], bytes[BYTES]);
+    tembuzar_map_answer3 m = tembuzar_read_record3(bytes, 100, odds_read, CELLS, stamps_read, CELLS);
+    printf("read_record  number %u, values %u, bytes %lu, odds %g, stamp %x [10, 1, 86, 0, aaaaaaaa]\n",
+           m.refusal.number, m.refusal.values, m.refusal.bytes, odds_read[11], stamps_read[11]);
+    m = tembuzar_read_record3(bytes, BYTES, odds_read, CELLS, stamps_read, CELLS);
+    printf("read_record  number %u, %lu by %lu by %lu, model %g %g %g, frame %u [0, 5 by 4 by 3, 0.75 -0.5 4, 2]\n",
+           m.refusal.number,
+           m.map.extents.x, m.map.extents.y, m.map.extents.z, m.map.model.occupied, m.map.model.free, m.map.model.ceiling, m.map.frame);
+    printf("             odds %g, all as written %d, stamp %x [0.75, 1, 0]\n",
+           odds_read[11], memcmp(odds, odds_read, CELLS * sizeof *odds) == 0, stamps_read[11]);
 }
 
 static void three_axes(void)
@@ -108,6 +157,7 @@ static void three_axes(void)
     for (; t.found; t = tembuzar_step3(t.line))
         printf(" (%ld,%ld,%ld)", t.cell.x, t.cell.y, t.cell.z);
     printf(", then none [(0,0,2) (0,0,2) (-1,1,2)]\n");
+    record_of_three_axes(m.map);
     m = tembuzar_reset3(m.map, odds, CELLS, stamps, CELLS);
     printf("reset        number %u, frame %u, odds %g, stamp %u [0, 1, 0, 0]\n",
            m.refusal.number, m.map.frame, odds[11], stamps[11]);

@@ -20,8 +20,9 @@
  * WHAT THE CALLER OWES
  *
  *   1. A list is a pointer to its first element and the number of its elements. The elements are there, aligned
- *      as C aligns their type, and not touched by another thread during the call. They are set, except that new and
- *      reset take lists that are not. Where the number is 0, the pointer may be NULL.
+ *      as C aligns their type, and not touched by another thread during the call. They are set, except that new, reset
+ *      and read_record take odds and stamps that are not, and write_record an output that is not. Where the number is
+ *      0, the pointer may be NULL.
  *   2. Where a call takes several lists, those that it may change (those not const) overlap no other of its lists.
  *   3. A bool is true or false.
  *
@@ -83,7 +84,7 @@ typedef struct tembuzar_refusal {
     uint64_t extent; /* 1, 5: the extent of that axis */
     uint64_t place;  /* 7 in a list: the place of the refused beam, from 0 */
     uint64_t count;  /* 7 in a list: the count of the beams before it */
-    uint64_t bytes;  /* 10, 11 */
+    uint64_t bytes;  /* 10: the offset of the field in the record. 11: how many bytes the record has */
 } tembuzar_refusal;
 
 /* ---- Maps ---- */
@@ -201,7 +202,7 @@ typedef struct tembuzar_mark_answer {
     bool changed;
 } tembuzar_mark_answer;
 
-/* How many marks changed a cell. */
+/* How many marks changed a cell; of a record, how many bytes were written. */
 typedef struct tembuzar_count_answer {
     tembuzar_refusal refusal;
     uint64_t count;
@@ -376,6 +377,43 @@ tembuzar_cell_answer3 tembuzar_cell_containing3(tembuzar_map3 map, tembuzar_poin
 tembuzar_line_answer3 tembuzar_plotter3(tembuzar_point3 start, tembuzar_point3 end);
 
 tembuzar_step_answer3 tembuzar_step3(tembuzar_line3 line);
+
+/* ---- Records: a map as bytes, to be kept between sweeps ----
+ *
+ * A record holds a map's extents, model, frame and odds, and no stamps. It is fields without gaps, all numbers
+ * little-endian; a field is a tag, 1 byte, the length of its data, 2 bytes, and its data. In this order:
+ *
+ *   tag 1: the extents, 2 bytes each, so 4 bytes for two axes and 6 for three
+ *   tag 2: the model's occupied, free and ceiling, 24 bytes
+ *   tag 3: the frame, 4 bytes
+ *   tag 4: a row of odds along x, 8 * extents.x bytes; one such field for every row, in the order of the cells
+ *   tag 5: nothing; the end
+ *
+ * So there are 41 bytes before the rows for two axes and 43 for three, 3 + 8 * extents.x bytes for each row, and 3
+ * bytes at the end. A map of 2 by 2 has 41 + 2 * 19 + 3 = 82.
+ * Both functions try everything before they write anything: a refused call writes nothing. */
+
+/* The map of a record: its head, with the record's frame; odds become the record's, and stamps 0. A sweep that was open
+ * when the record was written is over: the next one starts with tembuzar_begin_scan2.
+ * Refuses with 10, 4. 10: a field is cut short or absent, has another tag or length, or holds extents, a model, a frame
+ * or odds out of bounds, or something follows the end; bytes is the offset of the first such field, or of what follows.
+ * A record of three axes is broken at offset 0 for two, and one of two for three. */
+tembuzar_map_answer2 tembuzar_read_record2(const uint8_t *bytes, size_t bytes_count,
+                                           double *odds, size_t odds_count, uint32_t *stamps, size_t stamps_count);
+
+/* The record of a map, from the first byte of out on; what follows it in out stays. The count is of its bytes.
+ * Refuses with 1, 2, 3, 4, 9, 10, 11. 10: odds are below the floor or above the ceiling (NaN is neither); bytes is the
+ * offset that their row would have in the record. 11: out is shorter than the record; bytes is how many the record has,
+ * so that a call with 0 bytes of out asks for the size. */
+tembuzar_count_answer tembuzar_write_record2(tembuzar_map2 map, const double *odds, size_t odds_count,
+                                             uint8_t *out, size_t out_count);
+
+/* The same for three axes. */
+tembuzar_map_answer3 tembuzar_read_record3(const uint8_t *bytes, size_t bytes_count,
+                                           double *odds, size_t odds_count, uint32_t *stamps, size_t stamps_count);
+
+tembuzar_count_answer tembuzar_write_record3(tembuzar_map3 map, const double *odds, size_t odds_count,
+                                             uint8_t *out, size_t out_count);
 
 #ifdef __cplusplus
 }

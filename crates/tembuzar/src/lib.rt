@@ -3,5 +3,6 @@
 mod lines;
 mod map2;
 mod map3;
+mod record;
 mod sweep2;
 mod sweep3;
