@@ -1,0 +1,136 @@
+//! The entries of the C face as safe calls over slices, for two and three axes by one trait. A slice gives what the
+//! header asks of a list: its elements are there, set, aligned, and overlap no other list that may change.
+//! An entry that the header gains is added in one place here, for both numbers of axes.
+
+use crate::ffi::*;
+
+/// Tembuzar, over N axes.
+pub trait Face<const N: usize> {
+    #[allow(clippy::new_ret_no_self)] // the entry's own name
+    fn new(extents: Extents<N>, model: Model, odds: &mut [f64], stamps: &mut [u32]) -> MapAnswer<N>;
+    fn reset(map: Map<N>, odds: &mut [f64], stamps: &mut [u32]) -> MapAnswer<N>;
+    fn begin_scan(map: Map<N>, stamps: &mut [u32]) -> MapAnswer<N>;
+    fn update_scan(map: Map<N>, odds: &mut [f64], stamps: &mut [u32], numbers: &[f64], hits: &[u8]) -> CountAnswer;
+    fn update_ray(map: Map<N>, odds: &mut [f64], stamps: &mut [u32], beam: Beam<N>) -> CountAnswer;
+    fn mark_free(map: Map<N>, odds: &mut [f64], stamps: &mut [u32], cell: Cell<N>) -> MarkAnswer;
+    fn mark_occupied(map: Map<N>, odds: &mut [f64], stamps: &mut [u32], cell: Cell<N>) -> MarkAnswer;
+    fn set_log_odds(map: Map<N>, odds: &mut [f64], cell: Cell<N>, value: f64) -> Refusal;
+    fn log_odds_at(map: Map<N>, odds: &[f64], cell: Cell<N>) -> OddsAnswer;
+    fn sample_log_odds(map: Map<N>, odds: &[f64], point: Point<N>) -> SampleAnswer<N>;
+    fn cell_containing(map: Map<N>, point: Point<N>) -> CellAnswer<N>;
+    fn plotter(start: Point<N>, end: Point<N>) -> LineAnswer<N>;
+    fn step(line: Line<N>) -> StepAnswer<N>;
+}
+
+/// The library, linked in.
+pub struct Tembuzar;
+
+/// The declarations of one number of axes, and the safe calls over them. The names are the header's.
+macro_rules! face {
+    ($n:literal, $new:ident, $reset:ident, $begin_scan:ident, $update_scan:ident, $update_ray:ident, $mark_free:ident,
+     $mark_occupied:ident, $set_log_odds:ident, $log_odds_at:ident, $sample_log_odds:ident, $cell_containing:ident,
+     $plotter:ident, $step:ident) => {
+        unsafe extern "C" {
+            fn $new(e: Extents<$n>, m: Model, o: *mut f64, oc: usize, s: *mut u32, sc: usize) -> MapAnswer<$n>;
+            fn $reset(m: Map<$n>, o: *mut f64, oc: usize, s: *mut u32, sc: usize) -> MapAnswer<$n>;
+            fn $begin_scan(m: Map<$n>, s: *mut u32, sc: usize) -> MapAnswer<$n>;
+            fn $update_scan(
+                m: Map<$n>,
+                o: *mut f64,
+                oc: usize,
+                s: *mut u32,
+                sc: usize,
+                n: *const f64,
+                nc: usize,
+                h: *const u8,
+                hc: usize,
+            ) -> CountAnswer;
+            fn $update_ray(m: Map<$n>, o: *mut f64, oc: usize, s: *mut u32, sc: usize, b: Beam<$n>) -> CountAnswer;
+            fn $mark_free(m: Map<$n>, o: *mut f64, oc: usize, s: *mut u32, sc: usize, c: Cell<$n>) -> MarkAnswer;
+            fn $mark_occupied(m: Map<$n>, o: *mut f64, oc: usize, s: *mut u32, sc: usize, c: Cell<$n>) -> MarkAnswer;
+            fn $set_log_odds(m: Map<$n>, o: *mut f64, oc: usize, c: Cell<$n>, v: f64) -> Refusal;
+            fn $log_odds_at(m: Map<$n>, o: *const f64, oc: usize, c: Cell<$n>) -> OddsAnswer;
+            fn $sample_log_odds(m: Map<$n>, o: *const f64, oc: usize, p: Point<$n>) -> SampleAnswer<$n>;
+            fn $cell_containing(m: Map<$n>, p: Point<$n>) -> CellAnswer<$n>;
+            fn $plotter(s: Point<$n>, e: Point<$n>) -> LineAnswer<$n>;
+            fn $step(l: Line<$n>) -> StepAnswer<$n>;
+        }
+
+        // Each call below lends whole slices, which is all that the header asks.
+        impl Face<$n> for Tembuzar {
+            fn new(e: Extents<$n>, m: Model, o: &mut [f64], s: &mut [u32]) -> MapAnswer<$n> {
+                unsafe { $new(e, m, o.as_mut_ptr(), o.len(), s.as_mut_ptr(), s.len()) }
+            }
+            fn reset(m: Map<$n>, o: &mut [f64], s: &mut [u32]) -> MapAnswer<$n> {
+                unsafe { $reset(m, o.as_mut_ptr(), o.len(), s.as_mut_ptr(), s.len()) }
+            }
+            fn begin_scan(m: Map<$n>, s: &mut [u32]) -> MapAnswer<$n> {
+                unsafe { $begin_scan(m, s.as_mut_ptr(), s.len()) }
+            }
+            fn update_scan(m: Map<$n>, o: &mut [f64], s: &mut [u32], n: &[f64], h: &[u8]) -> CountAnswer {
+                let (oc, sc, nc, hc) = (o.len(), s.len(), n.len(), h.len());
+                unsafe { $update_scan(m, o.as_mut_ptr(), oc, s.as_mut_ptr(), sc, n.as_ptr(), nc, h.as_ptr(), hc) }
+            }
+            fn update_ray(m: Map<$n>, o: &mut [f64], s: &mut [u32], b: Beam<$n>) -> CountAnswer {
+                unsafe { $update_ray(m, o.as_mut_ptr(), o.len(), s.as_mut_ptr(), s.len(), b) }
+            }
+            fn mark_free(m: Map<$n>, o: &mut [f64], s: &mut [u32], c: Cell<$n>) -> MarkAnswer {
+                unsafe { $mark_free(m, o.as_mut_ptr(), o.len(), s.as_mut_ptr(), s.len(), c) }
+            }
+            fn mark_occupied(m: Map<$n>, o: &mut [f64], s: &mut [u32], c: Cell<$n>) -> MarkAnswer {
+                unsafe { $mark_occupied(m, o.as_mut_ptr(), o.len(), s.as_mut_ptr(), s.len(), c) }
+            }
+            fn set_log_odds(m: Map<$n>, o: &mut [f64], c: Cell<$n>, v: f64) -> Refusal {
+                unsafe { $set_log_odds(m, o.as_mut_ptr(), o.len(), c, v) }
+            }
+            fn log_odds_at(m: Map<$n>, o: &[f64], c: Cell<$n>) -> OddsAnswer {
+                unsafe { $log_odds_at(m, o.as_ptr(), o.len(), c) }
+            }
+            fn sample_log_odds(m: Map<$n>, o: &[f64], p: Point<$n>) -> SampleAnswer<$n> {
+                unsafe { $sample_log_odds(m, o.as_ptr(), o.len(), p) }
+            }
+            fn cell_containing(m: Map<$n>, p: Point<$n>) -> CellAnswer<$n> {
+                unsafe { $cell_containing(m, p) }
+            }
+            fn plotter(s: Point<$n>, e: Point<$n>) -> LineAnswer<$n> {
+                unsafe { $plotter(s, e) }
+            }
+            fn step(l: Line<$n>) -> StepAnswer<$n> {
+                unsafe { $step(l) }
+            }
+        }
+    };
+}
+
+face!(
+    2,
+    tembuzar_new2,
+    tembuzar_reset2,
+    tembuzar_begin_scan2,
+    tembuzar_update_scan2,
+    tembuzar_update_ray2,
+    tembuzar_mark_free2,
+    tembuzar_mark_occupied2,
+    tembuzar_set_log_odds2,
+    tembuzar_log_odds_at2,
+    tembuzar_sample_log_odds2,
+    tembuzar_cell_containing2,
+    tembuzar_plotter2,
+    tembuzar_step2
+);
+face!(
+    3,
+    tembuzar_new3,
+    tembuzar_reset3,
+    tembuzar_begin_scan3,
+    tembuzar_update_scan3,
+    tembuzar_update_ray3,
+    tembuzar_mark_free3,
+    tembuzar_mark_occupied3,
+    tembuzar_set_log_odds3,
+    tembuzar_log_odds_at3,
+    tembuzar_sample_log_odds3,
+    tembuzar_cell_containing3,
+    tembuzar_plotter3,
+    tembuzar_step3
+);

@@ -1,0 +1,164 @@
+//! The C face of Tembuzar, as `include/tembuzar.h` declares it. Two and three axes share each struct: an array of N
+//! numbers lies in memory, and crosses in a call, as the header's fields x, y (and z) do. `face.rs` makes the calls
+//! safe; nothing else in this program calls C.
+
+use std::ffi::c_double;
+
+#[repr(C)]
+#[derive(Clone, Copy, Debug, Default, PartialEq, Eq)]
+pub struct Refusal {
+    pub number: u32,
+    pub values: u32,
+    pub axis: u64,
+    pub index: i64,
+    pub extent: u64,
+    pub place: u64,
+    pub count: u64,
+    pub bytes: u64,
+}
+
+#[repr(C)]
+#[derive(Clone, Copy, Debug)]
+pub struct Model {
+    pub occupied: c_double,
+    pub free: c_double,
+    pub ceiling: c_double,
+}
+
+#[repr(C)]
+#[derive(Clone, Copy, Debug)]
+pub struct Axis {
+    pub current: c_double,
+    pub end: c_double,
+    pub increment: c_double,
+    pub step: c_double,
+    pub error: c_double,
+}
+
+#[repr(C)]
+#[derive(Clone, Copy, Debug)]
+pub struct Extents<const N: usize>(pub [u64; N]);
+
+#[repr(C)]
+#[derive(Clone, Copy, Debug)]
+pub struct Map<const N: usize> {
+    pub extents: Extents<N>,
+    pub model: Model,
+    pub frame: u32,
+}
+
+#[repr(C)]
+#[derive(Clone, Copy, Debug)]
+pub struct Point<const N: usize>(pub [c_double; N]);
+
+#[repr(C)]
+#[derive(Clone, Copy, Debug, PartialEq)]
+pub struct Cell<const N: usize>(pub [i64; N]);
+
+#[repr(C)]
+#[derive(Clone, Copy, Debug)]
+pub struct Beam<const N: usize> {
+    pub origin: Point<N>,
+    pub endpoint: Point<N>,
+    pub hit: bool,
+}
+
+#[repr(C)]
+#[derive(Clone, Copy, Debug)]
+pub struct Sample<const N: usize> {
+    pub value: c_double,
+    pub gradient: [c_double; N],
+}
+
+#[repr(C)]
+#[derive(Clone, Copy, Debug)]
+pub struct Line<const N: usize> {
+    pub axes: [Axis; N],
+    pub primary: u64,
+    pub threshold: c_double,
+    pub remaining: u64,
+}
+
+#[repr(C)]
+#[derive(Clone, Copy, Debug)]
+pub struct MarkAnswer {
+    pub refusal: Refusal,
+    pub changed: bool,
+}
+
+#[repr(C)]
+#[derive(Clone, Copy, Debug)]
+pub struct CountAnswer {
+    pub refusal: Refusal,
+    pub count: u64,
+}
+
+#[repr(C)]
+#[derive(Clone, Copy, Debug)]
+pub struct OddsAnswer {
+    pub refusal: Refusal,
+    pub found: bool,
+    pub odds: c_double,
+}
+
+#[repr(C)]
+#[derive(Clone, Copy, Debug)]
+pub struct MapAnswer<const N: usize> {
+    pub refusal: Refusal,
+    pub map: Map<N>,
+}
+
+#[repr(C)]
+#[derive(Clone, Copy, Debug)]
+pub struct CellAnswer<const N: usize> {
+    pub refusal: Refusal,
+    pub cell: Cell<N>,
+}
+
+#[repr(C)]
+#[derive(Clone, Copy, Debug)]
+pub struct SampleAnswer<const N: usize> {
+    pub refusal: Refusal,
+    pub found: bool,
+    pub sample: Sample<N>,
+}
+
+#[repr(C)]
+#[derive(Clone, Copy, Debug)]
+pub struct LineAnswer<const N: usize> {
+    pub refusal: Refusal,
+    pub line: Line<N>,
+}
+
+#[repr(C)]
+#[derive(Clone, Copy, Debug)]
+pub struct StepAnswer<const N: usize> {
+    pub found: bool,
+    pub cell: Cell<N>,
+    pub line: Line<N>,
+}
+
+#[cfg(test)]
+mod tests {
+    use super::*;
+    use std::mem::{align_of, offset_of, size_of};
+
+    /// The sizes that a C compiler gives the header's structs on x86-64.
+    #[test]
+    fn structs_lie_as_in_c() {
+        assert_eq!(size_of::<Refusal>(), 56);
+        assert_eq!((size_of::<Map<2>>(), size_of::<Map<3>>()), (48, 56));
+        assert_eq!((size_of::<Beam<2>>(), size_of::<Beam<3>>()), (40, 56));
+        assert_eq!((size_of::<Line<2>>(), size_of::<Line<3>>()), (104, 144));
+        assert_eq!((size_of::<MarkAnswer>(), size_of::<CountAnswer>(), size_of::<OddsAnswer>()), (64, 64, 72));
+        assert_eq!((size_of::<MapAnswer<2>>(), size_of::<MapAnswer<3>>()), (104, 112));
+        assert_eq!((size_of::<CellAnswer<2>>(), size_of::<CellAnswer<3>>()), (72, 80));
+        assert_eq!((size_of::<SampleAnswer<2>>(), size_of::<SampleAnswer<3>>()), (88, 96));
+        assert_eq!((size_of::<LineAnswer<2>>(), size_of::<LineAnswer<3>>()), (160, 200));
+        assert_eq!((size_of::<StepAnswer<2>>(), size_of::<StepAnswer<3>>()), (128, 176));
+        assert_eq!((offset_of!(Map<2>, frame), offset_of!(Map<3>, frame)), (40, 48));
+        assert_eq!((offset_of!(Beam<2>, hit), offset_of!(Beam<3>, hit)), (32, 48));
+        assert_eq!((offset_of!(OddsAnswer, odds), offset_of!(SampleAnswer<2>, sample)), (64, 64));
+        assert_eq!(align_of::<Beam<2>>(), 8);
+    }
+}

@@ -1,0 +1,252 @@
+//! The comparison is able to fail: libraries with one thing wrong, each of which must be found.
+
+use std::cell::Cell;
+
+use crate::answers::Verdict;
+use crate::face::{Face, Tembuzar};
+use crate::ffi::{
+    Beam, Cell as C, CellAnswer, CountAnswer, Extents, Line, LineAnswer, Map, MapAnswer, MarkAnswer, Model, OddsAnswer,
+    Point, Refusal, SampleAnswer, StepAnswer,
+};
+use crate::pair::{Pair, first_unlike};
+use crate::round::round;
+use crate::tally::Tally;
+
+/// Tembuzar but for one thing, `WRONG`.
+struct Wrong;
+
+thread_local! {
+    static WRONG: Cell<u32> = const { Cell::new(NOTHING) };
+}
+
+/// Whether this is the thing that is wrong.
+fn is(what: u32) -> bool {
+    WRONG.get() == what
+}
+
+const NOTHING: u32 = 0;
+const RAY_ODDS_BIT: u32 = 1;
+const RAY_NUMBER: u32 = 2;
+const LIST_ODDS_BIT: u32 = 3;
+const LIST_STAMP: u32 = 4;
+const LIST_COUNT: u32 = 5;
+const LIST_PLACE: u32 = 6;
+const LIST_COUNT_SO_FAR: u32 = 7;
+const LIST_LAST_BEAM: u32 = 8;
+const FREE_CHANGED: u32 = 9;
+const OCCUPIED_VALUES: u32 = 10;
+const SET_ODDS: u32 = 11;
+const READ_FOUND: u32 = 12;
+const SAMPLE_GRADIENT_BIT: u32 = 13;
+const CELL_INDEX: u32 = 14;
+const OPEN_FRAME: u32 = 15;
+const OPEN_BUFFER: u32 = 16;
+const RESET_ZERO_SIGN: u32 = 17;
+const NEW_STAMP: u32 = 18;
+const LINE_THRESHOLD_BIT: u32 = 19;
+const STEP_REMAINING: u32 = 20;
+const READ_ODDS_BIT: u32 = 21;
+const NEW_MODEL: u32 = 22;
+
+/// The lowest bit of the fraction, turned over.
+fn turn(x: &mut f64) {
+    *x = f64::from_bits(x.to_bits() ^ 1);
+}
+
+fn last(odds: &mut [f64]) -> &mut f64 {
+    odds.last_mut().expect("a map has cells")
+}
+
+impl<const N: usize> Face<N> for Wrong
+where
+    Tembuzar: Face<N>,
+{
+    fn new(extents: Extents<N>, model: Model, odds: &mut [f64], stamps: &mut [u32]) -> MapAnswer<N> {
+        let mut answer = Tembuzar::new(extents, model, odds, stamps);
+        if is(NEW_STAMP) && answer.refusal.number == 0 {
+            stamps[0] = 1;
+        }
+        if is(NEW_MODEL) && answer.refusal.number == 3 {
+            answer.refusal.number = 4;
+        }
+        answer
+    }
+    fn reset(map: Map<N>, odds: &mut [f64], stamps: &mut [u32]) -> MapAnswer<N> {
+        let answer = Tembuzar::reset(map, odds, stamps);
+        if is(RESET_ZERO_SIGN) && answer.refusal.number == 0 {
+            *last(odds) = -0.0;
+        }
+        answer
+    }
+    fn begin_scan(map: Map<N>, stamps: &mut [u32]) -> MapAnswer<N> {
+        let mut answer = Tembuzar::begin_scan(map, stamps);
+        if is(OPEN_FRAME) && answer.map.frame == 1 {
+            answer.map.frame = 2;
+        }
+        if is(OPEN_BUFFER) && answer.refusal.number == 4 {
+            answer.refusal = Refusal::default();
+        }
+        answer
+    }
+    fn update_scan(map: Map<N>, odds: &mut [f64], stamps: &mut [u32], numbers: &[f64], hits: &[u8]) -> CountAnswer {
+        let skip = usize::from(is(LIST_LAST_BEAM) && hits.len() > 1 && numbers.len() == 2 * N * hits.len());
+        let (numbers, hits) = (&numbers[..numbers.len() - 2 * N * skip], &hits[..hits.len() - skip]);
+        let mut answer = Tembuzar::update_scan(map, odds, stamps, numbers, hits);
+        let changed = answer.refusal.number == 0 && answer.count > 0;
+        match WRONG.get() {
+            LIST_ODDS_BIT if changed => turn(last(odds)),
+            LIST_STAMP if changed => stamps[0] ^= 1,
+            LIST_COUNT if changed => answer.count += 1,
+            LIST_PLACE if answer.refusal.number == 7 => answer.refusal.place += 1,
+            LIST_COUNT_SO_FAR if answer.refusal.number == 7 => answer.refusal.count += 1,
+            _ => (),
+        }
+        answer
+    }
+    fn update_ray(map: Map<N>, odds: &mut [f64], stamps: &mut [u32], beam: Beam<N>) -> CountAnswer {
+        let mut answer = Tembuzar::update_ray(map, odds, stamps, beam);
+        match WRONG.get() {
+            RAY_ODDS_BIT if answer.count > 0 => turn(last(odds)),
+            RAY_NUMBER if answer.refusal.number == 7 => answer.refusal.number = 6,
+            _ => (),
+        }
+        answer
+    }
+    fn mark_free(map: Map<N>, odds: &mut [f64], stamps: &mut [u32], cell: C<N>) -> MarkAnswer {
+        let mut answer = Tembuzar::mark_free(map, odds, stamps, cell);
+        answer.changed |= is(FREE_CHANGED);
+        answer
+    }
+    fn mark_occupied(map: Map<N>, odds: &mut [f64], stamps: &mut [u32], cell: C<N>) -> MarkAnswer {
+        let mut answer = Tembuzar::mark_occupied(map, odds, stamps, cell);
+        if is(OCCUPIED_VALUES) && answer.refusal.number == 5 {
+            answer.refusal.values = 2;
+        }
+        answer
+    }
+    fn set_log_odds(map: Map<N>, odds: &mut [f64], cell: C<N>, value: f64) -> Refusal {
+        if is(SET_ODDS) && value > map.model.ceiling {
+            return Refusal::default();
+        }
+        Tembuzar::set_log_odds(map, odds, cell, value)
+    }
+    fn log_odds_at(map: Map<N>, odds: &[f64], cell: C<N>) -> OddsAnswer {
+        let mut answer = Tembuzar::log_odds_at(map, odds, cell);
+        match WRONG.get() {
+            READ_FOUND if answer.refusal.number == 0 => answer.found = true,
+            READ_ODDS_BIT if answer.found => turn(&mut answer.odds),
+            _ => (),
+        }
+        answer
+    }
+    fn sample_log_odds(map: Map<N>, odds: &[f64], point: Point<N>) -> SampleAnswer<N> {
+        let mut answer = Tembuzar::sample_log_odds(map, odds, point);
+        if is(SAMPLE_GRADIENT_BIT) && answer.found {
+            turn(&mut answer.sample.gradient[N - 1]);
+        }
+        answer
+    }
+    fn cell_containing(map: Map<N>, point: Point<N>) -> CellAnswer<N> {
+        let mut answer = Tembuzar::cell_containing(map, point);
+        if is(CELL_INDEX) && answer.refusal.number == 5 {
+            answer.refusal.index ^= 1;
+        }
+        answer
+    }
+    fn plotter(start: Point<N>, end: Point<N>) -> LineAnswer<N> {
+        let mut answer = Tembuzar::plotter(start, end);
+        if is(LINE_THRESHOLD_BIT) && answer.refusal.number == 0 {
+            turn(&mut answer.line.threshold);
+        }
+        answer
+    }
+    fn step(line: Line<N>) -> StepAnswer<N> {
+        let mut answer = Tembuzar::step(line);
+        if is(STEP_REMAINING) && answer.found && answer.line.remaining == 0 {
+            answer.line.remaining = 1;
+        }
+        answer
+    }
+}
+
+/// The words of the first difference in 100 rounds.
+fn first_difference<const N: usize>(what: u32) -> Option<String>
+where
+    Tembuzar: Face<N>,
+{
+    WRONG.set(what);
+    let mut tally = Tally::default();
+    let run = |number| round::<Wrong, N>(5, number, None, &mut tally);
+    (0..100).map(run).find_map(|answer| answer.err().map(|difference| difference.words))
+}
+
+/// For both numbers of axes: the difference is found, in a call of this kind.
+fn found(what: u32, kind: &str) {
+    for words in [first_difference::<2>(what), first_difference::<3>(what)] {
+        let words = words.unwrap_or_else(|| panic!("wrong thing {what} was not found"));
+        assert!(words.contains(kind), "wrong thing {what} was found, but in another call:\n{words}");
+    }
+}
+
+#[test]
+fn nothing_wrong_nothing_found() {
+    assert_eq!(first_difference::<2>(NOTHING), None);
+    assert_eq!(first_difference::<3>(NOTHING), None);
+}
+
+#[test]
+fn wrong_beams_are_found() {
+    found(RAY_ODDS_BIT, "beams one by one");
+    found(RAY_NUMBER, "beams one by one");
+    found(LIST_ODDS_BIT, "list of beams");
+    found(LIST_STAMP, "stamp at 0");
+    found(LIST_COUNT, "list of beams");
+    found(LIST_PLACE, "list of beams");
+    found(LIST_COUNT_SO_FAR, "list of beams");
+    found(LIST_LAST_BEAM, "list of beams");
+}
+
+#[test]
+fn wrong_cells_are_found() {
+    found(FREE_CHANGED, "mark");
+    found(OCCUPIED_VALUES, "mark");
+    found(SET_ODDS, "set");
+    found(READ_FOUND, "read [");
+    found(READ_ODDS_BIT, "read [");
+    found(SAMPLE_GRADIENT_BIT, "sample at");
+    found(CELL_INDEX, "cell of");
+}
+
+#[test]
+fn wrong_maps_and_lines_are_found() {
+    found(OPEN_FRAME, "open");
+    found(OPEN_BUFFER, "begin_scan");
+    found(RESET_ZERO_SIGN, "reset");
+    found(NEW_STAMP, "new [");
+    found(NEW_MODEL, "new\n");
+    found(LINE_THRESHOLD_BIT, "line ");
+    found(STEP_REMAINING, "after step");
+}
+
+/// Two NaNs are equal; two zeros are not.
+#[test]
+fn floats_by_their_bits() {
+    let other_nan = f64::from_bits(0x7ff0_0000_0000_0001);
+    assert_eq!(first_unlike(&[1.0, f64::NAN], &[1.0, other_nan]), None);
+    assert_eq!(first_unlike(&[1.0, 0.0], &[1.0, -0.0]), Some(1));
+    assert_eq!(first_unlike(&[1.0, f64::NAN], &[1.0, 0.0]), Some(1));
+}
+
+/// A write beside a lent list shows.
+#[test]
+fn borders_are_watched() {
+    let mut rng = crate::draw::round_numbers(5, 5);
+    let state = crate::draw::state(&mut rng, [3, 4]);
+    let same = |beside: usize| -> Verdict {
+        let mut pair = Pair::of(&state);
+        pair.write_beside(beside);
+        pair.same()
+    };
+    assert!(Pair::of(&state).same().is_ok());
+    assert!((0..4).all(|beside| same(beside).is_err()));
+}

@@ -1,0 +1,142 @@
+//! Times the original and Tembuzar on the same inputs, prepared beforehand, in one process. In each round both do the
+//! same work once, and rounds alternate in which goes first. Each side's own lists are put back right before its turn,
+//! so both start equally warm. The median of all rounds counts.
+
+use std::hint::black_box;
+use std::time::Instant;
+
+use oracle::generate::Rng;
+use oracle::rust::Beam;
+
+use crate::bench::{Bench, Work};
+use crate::face::{Face, Tembuzar};
+
+/// Rounds before the clock counts.
+const WARMING: usize = 10;
+
+/// The nanoseconds of one turn, and its answer.
+fn turn<const N: usize>(bench: &mut Bench<N>, put_back: fn(&mut Bench<N>), work: Work<N>) -> (f64, u64) {
+    put_back(bench);
+    let start = Instant::now();
+    let answer = black_box(work(black_box(bench)));
+    (start.elapsed().as_nanos() as f64, answer)
+}
+
+fn median(times: &mut [f64]) -> f64 {
+    times.sort_by(f64::total_cmp);
+    times[times.len() / 2]
+}
+
+/// Runs one case and prints its line. Both sides must give the same answer in every round.
+fn case<const N: usize>(name: &str, rounds: usize, bench: &mut Bench<N>, original: Work<N>, ours: Work<N>) {
+    let (mut original_times, mut our_times) = (Vec::new(), Vec::new());
+    for round in 0..WARMING + rounds {
+        let (first, second) = if round % 2 == 0 {
+            let first = turn(bench, Bench::original_back, original);
+            (first, turn(bench, Bench::ours_back, ours))
+        } else {
+            let second = turn(bench, Bench::ours_back, ours);
+            (turn(bench, Bench::original_back, original), second)
+        };
+        assert_eq!(first.1, second.1, "the answers differ: {name}");
+        if round >= WARMING {
+            original_times.push(first.0);
+            our_times.push(second.0);
+        }
+    }
+    let (theirs, ours) = (median(&mut original_times), median(&mut our_times));
+    println!("{name:<44} {theirs:>12.0} {ours:>12.0} {:>8.3}", theirs / ours);
+}
+
+pub fn all(rounds: usize) {
+    println!("nanoseconds, median of {rounds} rounds");
+    println!("{:<44} {:>12} {:>12} {:>8}", "", "original", "ours", "ratio");
+    sweeps(rounds);
+    looks(rounds);
+    heads(rounds);
+}
+
+fn sweep<const N: usize>(name: &str, rounds: usize, extents: [usize; N], beams: &[Beam<f64, N>])
+where
+    Tembuzar: Face<N>,
+{
+    let mut bench = Bench::new(extents, 1, beams, &[]);
+    case(name, rounds, &mut bench, Bench::original_sweep, Bench::our_sweep);
+}
+
+fn sweeps(rounds: usize) {
+    let mut rng = Rng(1);
+    let wide = [256, 256];
+    sweep("sweep of 360 beams, 256 x 256", rounds, wide, &circle(&mut rng, 360));
+    sweep("10,000 beams, 128 x 128 x 64", rounds, [128, 128, 64], &dome(&mut rng, 10_000));
+    sweep("10,000 short beams, 256 x 256", rounds, wide, &short(&mut rng, 10_000));
+    sweep("10,000 beams mostly off the grid, 256 x 256", rounds, wide, &mostly_off(&mut rng, 10_000));
+}
+
+fn looks(rounds: usize) {
+    let mut rng = Rng(2);
+    let points: Vec<[f64; 2]> = (0..1000).map(|_| [(); 2].map(|_| rng.between(0.0, 255.0))).collect();
+    let mut bench = Bench::new([256, 256], 1, &circle(&mut rng, 360), &points);
+    bench.swept();
+    case("1,000 samples, 256 x 256", rounds, &mut bench, Bench::original_samples, Bench::our_samples);
+    let points: Vec<[f64; 3]> = (0..1000).map(|_| [(); 3].map(|_| rng.between(0.0, 63.0))).collect();
+    let mut bench = Bench::new([128, 128, 64], 1, &dome(&mut rng, 10_000), &points);
+    bench.swept();
+    case("1,000 samples, 128 x 128 x 64", rounds, &mut bench, Bench::original_samples, Bench::our_samples);
+}
+
+fn heads(rounds: usize) {
+    let highest = oracle::rust::HIGHEST_FRAME;
+    let mut low = Bench::new([256, 256], 1, &[], &[]);
+    case("opening 1,000 sweeps, 256 x 256", rounds, &mut low, Bench::original_opens, Bench::our_opens);
+    case("reset, 256 x 256", rounds, &mut low, Bench::original_reset, Bench::our_reset);
+    let mut last = Bench::new([256, 256], highest, &[], &[]);
+    case("opening the sweep after the last frame", rounds, &mut last, Bench::original_open, Bench::our_open);
+    let mut deep = Bench::new([128, 128, 64], 1, &[], &[]);
+    case("reset, 128 x 128 x 64", rounds, &mut deep, Bench::original_reset, Bench::our_reset);
+}
+
+/// A full turn from the middle of 256 by 256, each beam to its own range.
+fn circle(rng: &mut Rng, many: usize) -> Vec<Beam<f64, 2>> {
+    let beam = |degree: usize| {
+        let angle = (degree as f64).to_radians();
+        let range = rng.between(30.0, 140.0);
+        let endpoint = [128.5 + range * angle.cos(), 128.5 + range * angle.sin()];
+        Beam { origin: [128.5, 128.5], endpoint, hit: range < 130.0 }
+    };
+    (0..many).map(beam).collect()
+}
+
+/// From the ground in the middle of 128 by 128 by 64, upwards.
+fn dome(rng: &mut Rng, many: usize) -> Vec<Beam<f64, 3>> {
+    let beam = |_| {
+        let endpoint = [rng.between(-10.0, 138.0), rng.between(-10.0, 138.0), rng.between(8.0, 80.0)];
+        Beam { origin: [64.5, 64.5, 0.5], endpoint, hit: true }
+    };
+    (0..many).map(beam).collect()
+}
+
+/// At most some three cells each, anywhere on 256 by 256.
+fn short(rng: &mut Rng, many: usize) -> Vec<Beam<f64, 2>> {
+    let beam = |_| {
+        let origin = [rng.between(3.0, 253.0), rng.between(3.0, 253.0)];
+        let endpoint = origin.map(|x| x + rng.between(-2.0, 2.0));
+        Beam { origin, endpoint, hit: true }
+    };
+    (0..many).map(beam).collect()
+}
+
+/// Nine in ten pass beside 256 by 256, the others cross a corner of it.
+fn mostly_off(rng: &mut Rng, many: usize) -> Vec<Beam<f64, 2>> {
+    let beam = |place: usize| {
+        let origin = [rng.between(300.0, 900.0), rng.between(-500.0, 800.0)];
+        let far = [rng.between(257.0, 900.0), rng.between(-500.0, 800.0)];
+        let near = [rng.between(200.0, 256.0), rng.between(200.0, 256.0)];
+        let endpoint = match place % 10 {
+            0 => near,
+            _ => far,
+        };
+        Beam { origin, endpoint, hit: true }
+    };
+    (0..many).map(beam).collect()
+}
