@@ -20,8 +20,10 @@ use std::process::ExitCode;
 use face::Tembuzar;
 use round::{Difference, round};
 use tally::Tally;
+use time::Run;
 
-const USAGE: &str = "usage: compare check SEED BEAMS | compare round SEED ROUND | compare time [ROUNDS]";
+const USAGE: &str = "usage: compare check SEED BEAMS | compare round SEED ROUND | compare time [ROUNDS]
+       compare turns original|ours|none ROUNDS CASE";
 
 fn main() -> ExitCode {
     let words: Vec<String> = std::env::args().skip(1).collect();
@@ -30,7 +32,11 @@ fn main() -> ExitCode {
         (Some("check"), Some(seed), Some(beams)) => check_until(seed, beams),
         (Some("round"), Some(seed), Some(only)) => check_round(seed, only),
         (Some("time"), rounds, None) => {
-            time::all(rounds.unwrap_or(501).max(1) as usize);
+            time::all(&Run::Timed { rounds: rounds.unwrap_or(501).max(1) as usize });
+            ExitCode::SUCCESS
+        }
+        (Some("turns"), None, Some(rounds)) if words.len() == 4 => {
+            time::all(&Run::Turns { side: words[1].clone(), case: words[3].clone(), rounds: rounds as usize });
             ExitCode::SUCCESS
         }
         _ => {

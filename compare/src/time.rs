@@ -1,6 +1,7 @@
 //! Times the original and Tembuzar on the same inputs, prepared beforehand, in one process. In each round both do the
 //! same work once, and rounds alternate in which goes first. Each side's own lists are put back right before its turn,
-//! so both start equally warm. The median of all rounds counts.
+//! so both start equally warm. The median of all rounds counts. Or one side does its turns of one case and nothing is
+//! timed, for a tool that counts instructions.
 
 use std::hint::black_box;
 use std::time::Instant;
@@ -27,8 +28,39 @@ fn median(times: &mut [f64]) -> f64 {
     times[times.len() / 2]
 }
 
-/// Runs one case and prints its line. Both sides must give the same answer in every round.
-fn case<const N: usize>(name: &str, rounds: usize, bench: &mut Bench<N>, original: Work<N>, ours: Work<N>) {
+/// What is done with each case: both sides timed, or the turns of one side, or of none, run and not timed.
+pub enum Run {
+    Timed { rounds: usize },
+    Turns { side: String, case: String, rounds: usize },
+}
+
+impl Run {
+    fn case<const N: usize>(&self, name: &str, bench: &mut Bench<N>, original: Work<N>, ours: Work<N>) {
+        match self {
+            Run::Timed { rounds } => timed(name, *rounds, bench, original, ours),
+            Run::Turns { side, case, rounds } if name.starts_with(case) => {
+                for _ in 0..*rounds {
+                    turns(side, bench, original, ours);
+                }
+            }
+            Run::Turns { .. } => {}
+        }
+    }
+}
+
+/// One turn of a side, with both sides' lists put back first; of neither, where the side is `none`.
+fn turns<const N: usize>(side: &str, bench: &mut Bench<N>, original: Work<N>, ours: Work<N>) {
+    bench.original_back();
+    bench.ours_back();
+    match side {
+        "original" => black_box(original(black_box(bench))),
+        "ours" => black_box(ours(black_box(bench))),
+        _ => 0,
+    };
+}
+
+/// Times one case and prints its line. Both sides must give the same answer in every round.
+fn timed<const N: usize>(name: &str, rounds: usize, bench: &mut Bench<N>, original: Work<N>, ours: Work<N>) {
     let (mut original_times, mut our_times) = (Vec::new(), Vec::new());
     for round in 0..WARMING + rounds {
         let (first, second) = if round % 2 == 0 {
@@ -48,52 +80,54 @@ fn case<const N: usize>(name: &str, rounds: usize, bench: &mut Bench<N>, origina
     println!("{name:<44} {theirs:>12.0} {ours:>12.0} {:>8.3}", theirs / ours);
 }
 
-pub fn all(rounds: usize) {
-    println!("nanoseconds, median of {rounds} rounds");
-    println!("{:<44} {:>12} {:>12} {:>8}", "", "original", "ours", "ratio");
-    sweeps(rounds);
-    looks(rounds);
-    heads(rounds);
+pub fn all(run: &Run) {
+    if let Run::Timed { rounds } = run {
+        println!("nanoseconds, median of {rounds} rounds");
+        println!("{:<44} {:>12} {:>12} {:>8}", "", "original", "ours", "ratio");
+    }
+    sweeps(run);
+    looks(run);
+    heads(run);
 }
 
-fn sweep<const N: usize>(name: &str, rounds: usize, extents: [usize; N], beams: &[Beam<f64, N>])
+fn sweep<const N: usize>(run: &Run, name: &str, extents: [usize; N], beams: &[Beam<f64, N>])
 where
     Tembuzar: Face<N>,
 {
     let mut bench = Bench::new(extents, 1, beams, &[]);
-    case(name, rounds, &mut bench, Bench::original_sweep, Bench::our_sweep);
+    run.case(name, &mut bench, Bench::original_sweep, Bench::our_sweep);
 }
 
-fn sweeps(rounds: usize) {
+fn sweeps(run: &Run) {
     let mut rng = Rng(1);
     let wide = [256, 256];
-    sweep("sweep of 360 beams, 256 x 256", rounds, wide, &circle(&mut rng, 360));
-    sweep("10,000 beams, 128 x 128 x 64", rounds, [128, 128, 64], &dome(&mut rng, 10_000));
-    sweep("10,000 short beams, 256 x 256", rounds, wide, &short(&mut rng, 10_000));
-    sweep("10,000 beams mostly off the grid, 256 x 256", rounds, wide, &mostly_off(&mut rng, 10_000));
+    sweep(run, "sweep of 360 beams, 256 x 256", wide, &circle(&mut rng, 360));
+    sweep(run, "10,000 beams, 128 x 128 x 64", [128, 128, 64], &dome(&mut rng, 10_000));
+    sweep(run, "10,000 short beams, 256 x 256", wide, &short(&mut rng, 10_000));
+    sweep(run, "10,000 beams mostly off the grid, 256 x 256", wide, &mostly_off(&mut rng, 10_000));
 }
 
-fn looks(rounds: usize) {
+fn looks(run: &Run) {
     let mut rng = Rng(2);
     let points: Vec<[f64; 2]> = (0..1000).map(|_| [(); 2].map(|_| rng.between(0.0, 255.0))).collect();
     let mut bench = Bench::new([256, 256], 1, &circle(&mut rng, 360), &points);
     bench.swept();
-    case("1,000 samples, 256 x 256", rounds, &mut bench, Bench::original_samples, Bench::our_samples);
+    run.case("1,000 samples, 256 x 256", &mut bench, Bench::original_samples, Bench::our_samples);
     let points: Vec<[f64; 3]> = (0..1000).map(|_| [(); 3].map(|_| rng.between(0.0, 63.0))).collect();
     let mut bench = Bench::new([128, 128, 64], 1, &dome(&mut rng, 10_000), &points);
     bench.swept();
-    case("1,000 samples, 128 x 128 x 64", rounds, &mut bench, Bench::original_samples, Bench::our_samples);
+    run.case("1,000 samples, 128 x 128 x 64", &mut bench, Bench::original_samples, Bench::our_samples);
 }
 
-fn heads(rounds: usize) {
+fn heads(run: &Run) {
     let highest = oracle::rust::HIGHEST_FRAME;
     let mut low = Bench::new([256, 256], 1, &[], &[]);
-    case("opening 1,000 sweeps, 256 x 256", rounds, &mut low, Bench::original_opens, Bench::our_opens);
-    case("reset, 256 x 256", rounds, &mut low, Bench::original_reset, Bench::our_reset);
+    run.case("opening 1,000 sweeps, 256 x 256", &mut low, Bench::original_opens, Bench::our_opens);
+    run.case("reset, 256 x 256", &mut low, Bench::original_reset, Bench::our_reset);
     let mut last = Bench::new([256, 256], highest, &[], &[]);
-    case("opening the sweep after the last frame", rounds, &mut last, Bench::original_open, Bench::our_open);
+    run.case("opening the sweep after the last frame", &mut last, Bench::original_open, Bench::our_open);
     let mut deep = Bench::new([128, 128, 64], 1, &[], &[]);
-    case("reset, 128 x 128 x 64", rounds, &mut deep, Bench::original_reset, Bench::our_reset);
+    run.case("reset, 128 x 128 x 64", &mut deep, Bench::original_reset, Bench::our_reset);
 }
 
 /// A full turn from the middle of 256 by 256, each beam to its own range.
