@@ -56,6 +56,7 @@ fn rows_check(bytes: &[u8], at: usize, width: usize, count: usize, model: Model)
     end_check(bytes, here)
 }
 
+// The frame, then the rows. The extents have passed, so a row is short.
 fn frame_check(bytes: &[u8], at: usize, width: usize, count: usize, model: Model) -> Check
     requires { ⌜ width ≤ mostExtent ⌝ }
     ensures { λ r. ⌜ checkOf r ≡ frameRefusal (modelOf model) width count at (drop at (now (bytes .entry))) ⌝ }
@@ -81,6 +82,7 @@ pub fn model_at(bytes: &[u8], at: usize) -> Model
     }
 }
 
+// The model, then the rest. The extents have passed, so a row is short.
 fn model_check(bytes: &[u8], at: usize, width: usize, count: usize) -> Check
     requires { ⌜ width ≤ mostExtent ⌝ }
     ensures { λ r. ⌜ checkOf r ≡ modelRefusal width count at (drop at (now (bytes .entry))) ⌝ }

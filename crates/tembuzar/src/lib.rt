@@ -1,4 +1,4 @@
-// The C face: every entry of the library as a function with the prefix `tembuzar_`, and nothing but conversions. `include/tembuzar.h`
+// The C face: every entry of the library but the lent forms, as a function with the prefix `tembuzar_`, and nothing but conversions. `include/tembuzar.h`
 // declares them and says what a caller owes: lists that are there, as long as said, and that do not overlap. Everything else is answered.
 mod lines;
 mod map2;
