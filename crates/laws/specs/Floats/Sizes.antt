@@ -72,7 +72,7 @@ unfolding round
 unsigned-round f a c = unsigned-units f _ _
 
 -- ---- a rounded fraction that is at most an exact one
-below-exact : (x v : Float) (c d : ℕ) → 0 < d → HasValue v false c d → T (unsigned x) → T (le x v) → AtMost x c d
+pub below-exact : (x v : Float) (c d : ℕ) → 0 < d → HasValue v false c d → T (unsigned x) → T (le x v) → AtMost x c d
 unfolding le
 below-exact nan v c d D h p q = absurd p
 below-exact (inf s) nan c d D h p q = absurd h
@@ -87,7 +87,7 @@ below-exact (fin false m e) (fin false n g) c d D h p q =
     transfer (m * up e) c (down e) d (m * up e) (n * up g) (down e) (down g) (down-pos e) (down-pos g) refl (sym (h .1))
     (less-or-equal (m * up e * down g) (n * up g * down e) true q)
 
-round-most : (f : Format) (a b c d : ℕ) → 0 < b → 0 < d → HasValue (round f false c d) false c d → a * d ≤ c * b → AtMost (round f false a b) c d
+pub round-most : (f : Format) (a b c d : ℕ) → 0 < b → 0 < d → HasValue (round f false c d) false c d → a * d ≤ c * b → AtMost (round f false a b) c d
 round-most f a b c d B D v h = below-exact (round f false a b) (round f false c d) c d D v (unsigned-round f a b) (round-mono f a b c d B D h)
 
 -- ---- halves are exact
