@@ -1,10 +1,12 @@
-// What is asked of one float: whether it is finite, and its whole number as Rust's `as` gives it: toward zero, to the nearest end of the range beyond it, 0 for a NaN.
-// The 64 bits are split into sign, exponent and fraction, and the fraction is shifted. Nothing here knows of lines or grids.
+// What is asked of one float: whether it is finite; its whole number as Rust's `as` gives it: toward zero, to the nearest end of the range beyond it, 0 for a NaN;
+// and the cell that it can be followed from by whole steps. The 64 bits are split into sign, exponent and fraction, and the fraction is shifted.
+// Nothing here knows of lines, and of grids only that an axis has at most 4096 cells.
 ghost use mathlib.Core.Path.{_≡_};
 ghost use Prim.Native.Nat.{_^_, _<_};
 ghost use lib.Ieee.{toUnsigned};
 ghost use lib.Ieee.Scale.{finite};
 ghost use Rattle.rules.specs.Coordinates.{truncated};
+ghost use Rattle.laws.specs.Floats.Inside.{Followed};
 ghost use Rattle.floats.specs.Whole.{wholePart};
 
 // The whole part of a size that the fields `exponent` and `fraction` stand for. From exponent 1087 on it would not fit, and a
@@ -76,4 +78,30 @@ pub fn is_finite(x: f64) -> bool
         return -1.0 / 0.0 < x;
     }
     false
+}
+
+// What `followed_cell` answers of a coordinate that it does not follow: the number of no cell.
+pub const NOT_FOLLOWED: u64 = 18446744073709551615;
+
+// The cell that a coordinate can be followed from: the one that it lies in, where rounding cannot carry it across a face as it goes on by whole steps,
+// else `NOT_FOLLOWED`. It is a hint: the contract says that a cell answered is right, and allows `NOT_FOLLOWED` of any coordinate. The code answers a cell
+// for all coordinates from +0.0 to below 4096 that lie at least 2^-20 below their cell's upper face. -0.0 has the sign of a number below zero, and is not followed.
+pub fn followed_cell(x: f64) -> u64
+    ensures { λ r. ⌜ Followed r x ⌝ }
+{
+    if x != x {
+        return NOT_FOLLOWED;
+    }
+    if f64::to_bits(x) >> 63 != 0 {
+        return NOT_FOLLOWED;
+    }
+    let cell = count_of(x);
+    if cell >= 4096 {
+        return NOT_FOLLOWED;
+    }
+    let highest = std::num::nearest_u64_to_f64(cell) + (1.0 - 1.0 / 1048576.0);
+    if x <= highest {
+        return cell;
+    }
+    NOT_FOLLOWED
 }
