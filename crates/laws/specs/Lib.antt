@@ -9,6 +9,7 @@ pub mod Checks
 pub mod ModelBounds
 pub mod Places
 pub mod LineSteps
+pub mod Following
 pub mod MarkLists
 pub mod FlatList
 pub mod Room

@@ -9,12 +9,30 @@ use lib.IntN.{ℤ}
 use lib.Dec.{eqb, leb}
 use lib.ListN.{length}
 use lib.Ieee.{Float, Format}
-use borrow.Author.Tests.{leb-false, eqb-true, eqb-false, lt-leb, ne-eqb}
+use borrow.Author.Tests.{leb-false, eqb-true, eqb-false, eq-eqb, lt-leb, ne-eqb}
 use Rattle.rules.specs.Coordinates.{flatIndex, truncatedPoint}
 use Rattle.rules.specs.TheLine.{Axis, Line, Step, yields, none, axesAfter, currents, ends, lastStep, earlierStep, stepOf, andOn, cellsWithin, lineCells}
 use Rattle.rules.specs.OneBeam.{markOf, marksAlong}
 
-axes-kept : (f : Format) (k p : ℕ) (t : Float) (as′ : List Axis) → length (axesAfter f k p t as′) ≡ length as′
+-- the line after a step that is not the last
+abbrev pub lineAfter : Format → Line → Line
+lineAfter f l =
+    record { axes = axesAfter f 0 (l .primary) (l .threshold) (l .axes); primary = l .primary; threshold = l .threshold; remaining = l .remaining - 1 }
+
+-- and the line after the last step
+abbrev pub lineEnded : Line → Line
+lineEnded l = record { axes = l .axes; primary = l .primary; threshold = l .threshold; remaining = 0 }
+
+module _ (f : Format) (l : Line) (below : l .primary < length (l .axes)) where
+  pub goes-on : 1 < l .remaining → stepOf f l ≡ yields (truncatedPoint (currents (l .axes))) (lineAfter f l)
+  unfolding stepOf earlierStep
+  goes-on h = simp (ne-eqb (l .remaining) 0 (λ z. omega arith), lt-leb _ _ below, ne-eqb (l .remaining) 1 (λ z. omega arith))
+
+  pub ends-here : l .remaining ≡ 1 → stepOf f l ≡ yields (truncatedPoint (ends (l .axes))) (lineEnded l)
+  unfolding stepOf lastStep
+  ends-here h = simp (ne-eqb (l .remaining) 0 (λ z. omega arith), lt-leb _ _ below, eq-eqb (l .remaining) 1 h)
+
+pub axes-kept : (f : Format) (k p : ℕ) (t : Float) (as′ : List Axis) → length (axesAfter f k p t as′) ≡ length as′
 unfolding axesAfter
 axes-kept f k p t [] = refl
 axes-kept f k p t (a ∷ as′) = ap suc (axes-kept f (suc k) p t as′)

@@ -33,6 +33,16 @@ answer-lt k e i n h = go (along e i) refl h
     go (some m) t q = along-lt e i n (t ∙ ap some cc)
     go none t q = let z : _≡_ {A = ℕ} 0 1 = cc in absurd (omega arith)
 
+-- and the index is that number
+pub answer-is : (k e : ℕ) (i : ℤ) (n : ℕ) → orOff k e i (along e i) ≡ given n → pos n ≡ i
+unfolding along
+answer-is k e (pos m) n h = go (ltb m e) h
+  where
+    go : (b : Bool) → orOff k e (pos m) (cond b (some m) none) ≡ given n → pos n ≡ pos m
+    go true q = let w : m ≡ n = cc in ap pos (sym w)
+    go false q = let z : _≡_ {A = ℕ} 0 1 = cc in absurd (omega arith)
+answer-is k e (negsuc m) n h = let z : _≡_ {A = ℕ} 0 1 = cc in absurd (omega arith)
+
 pub not-negative : (i : ℤ) → ltZ i (pos 0) ≡ false → T (nonNeg i)
 not-negative (pos n) h = tt
 not-negative (negsuc n) h = let z : _≡_ {A = ℕ} 0 1 = cc in absurd (omega arith)
