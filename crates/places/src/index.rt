@@ -1,6 +1,10 @@
 // Where a cell stands in the lent lists. Each axis is tested alone before it counts: testing only the sum is unsound, since an overshoot
 // on one axis lands on a valid cell of the next row.
+ghost use mathlib.Core.List.{[], _∷_};
 ghost use mathlib.Core.Path.{_≡_};
+ghost use Prim.Native.Nat.{_<_};
+ghost use lib.IntN.{pos};
+ghost use Rattle.rules.specs.RefusalNumbers.{given};
 ghost use Rattle.rules.specs.Coordinates.{along, orOff, flatIndex};
 ghost use Rattle.types.specs.Points.{cell2, cell3, extents2, extents3};
 ghost use Rattle.laws.specs.Checks.{InBounds};
@@ -45,7 +49,15 @@ fn axis_at(axis: u64, index: i64, extent: u64) -> Along
     }
 }
 
-// Extents in bounds, so that no product wraps: the entries refuse others with 1 and 2.
+// The place of a cell whose indices were tested. Extents in bounds, so that no product wraps: the entries refuse others with 1 and 2.
+pub fn place_within2(extents: Extents2, x: u64, y: u64) -> usize
+    requires { ⌜ InBounds (extents2 extents) ⌝ ∗ ⌜ x < extents .x ⌝ ∗ ⌜ y < extents .y ⌝ }
+    ensures { λ r. ⌜ flatIndex (extents2 extents) (pos x ∷ pos y ∷ []) ≡ given r ⌝ }
+{
+    (x + y * extents.x) as usize
+}
+
+// Extents in bounds, as above.
 pub fn translate_to_index2(extents: Extents2, cell: Cell2) -> Place
     requires { ⌜ InBounds (extents2 extents) ⌝ }
     ensures { λ r. ⌜ placeOf r ≡ flatIndex (extents2 extents) (cell2 cell) ⌝ }
@@ -54,9 +66,17 @@ pub fn translate_to_index2(extents: Extents2, cell: Cell2) -> Place
         Along::Refused(r) => Place::Refused(r),
         Along::In(x) => match axis_at(1, cell.y, extents.y) {
             Along::Refused(r) => Place::Refused(r),
-            Along::In(y) => Place::At((x + y * extents.x) as usize),
+            Along::In(y) => Place::At(place_within2(extents, x, y)),
         },
     }
+}
+
+// As for two axes.
+pub fn place_within3(extents: Extents3, x: u64, y: u64, z: u64) -> usize
+    requires { ⌜ InBounds (extents3 extents) ⌝ ∗ ⌜ x < extents .x ⌝ ∗ ⌜ y < extents .y ⌝ ∗ ⌜ z < extents .z ⌝ }
+    ensures { λ r. ⌜ flatIndex (extents3 extents) (pos x ∷ pos y ∷ pos z ∷ []) ≡ given r ⌝ }
+{
+    (x + y * extents.x + z * (extents.x * extents.y)) as usize
 }
 
 // As for two axes.
@@ -70,9 +90,7 @@ pub fn translate_to_index3(extents: Extents3, cell: Cell3) -> Place
             Along::Refused(r) => Place::Refused(r),
             Along::In(y) => match axis_at(2, cell.z, extents.z) {
                 Along::Refused(r) => Place::Refused(r),
-                Along::In(z) => Place::At(
-                    (x + y * extents.x + z * (extents.x * extents.y)) as usize,
-                ),
+                Along::In(z) => Place::At(place_within3(extents, x, y, z)),
             },
         },
     }

@@ -6,5 +6,7 @@ pub use containing::cell_containing2;
 pub use containing::cell_containing3;
 pub use containing::within;
 pub use index::Place;
+pub use index::place_within2;
+pub use index::place_within3;
 pub use index::translate_to_index2;
 pub use index::translate_to_index3;

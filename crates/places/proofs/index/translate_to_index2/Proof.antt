@@ -1,17 +1,13 @@
 -- The axes answer one after the other: the first refusal stands, and indices below their extents make a place.
-use Prim.Native.Nat.{ℕ, _*_, _≤_}
+use Prim.Native.Nat.{ℕ}
 use mathlib.Core.Path.{_≡_, sym, ap, _∙_}
-use native.Mathlib.Nat.{one-mul, mul-one, add-zero}
-use native.Mathlib.Omega.{arith}
 use lib.IntN.{ℤ}
-use mir.Facts.{fits-le, fits-lit}
 use mir.Syntax.{w64}
 use mir.ValLaws.{toZ-ofZ}
 use borrow.Author.Needs.{needs}
 use Rattle.rules.specs.RefusalNumbers.{Answer, given}
-use Rattle.rules.specs.TheGridAndItsBounds.{strides, stridesFrom}
-use Rattle.rules.specs.Coordinates.{along, orOff, onGridFrom, timesStrides, flatIndex}
-use Rattle.laws.specs.Places.{answer-lt, within-products}
+use Rattle.rules.specs.Coordinates.{along, orOff, onGridFrom, flatIndex}
+use Rattle.laws.specs.Places.{answer-lt, answer-is}
 use Rattle.places.specs.Places.{alongOf}
 use Rattle.places.proofs.index.translate_to_index2.Statement.{statement}
 use Rattle.places.proofs.index.translate_to_index2.Tie as tie
@@ -65,24 +61,11 @@ returns-2 : tie.Need-returns-2
 unfolding flatIndex onGridFrom
 returns-2 c = simp (gave-x (c .before .before .before .before .before .before), sym (asked-y (c .before .before .before)) ∙ ap alongOf (c .before .r2 .given .1))
 
--- no product and no sum wraps
-product : (c : tie.After-y) → c .y .given .0 .0 * from-y (c .before .before) .args .extents .x ≤ 4096 * 4096
-product c = let s = from-y (c .before .before) in within-products (answer-lt _ _ _ _ (gave-y c)) (s .pre .0 .2 .1) (s .pre .0 .1)
-
-mul-t11 : tie.Need-mul-t11
-mul-t11 c = fits-le (product (c .before .before)) (fits-lit {n = 4096 * 4096} tt)
-
-add-t12 : tie.Need-add-t12
-add-t12 c =
-    let p = product (c .before .before) in
-    let q = answer-lt _ _ _ _ (gave-x (c .before .before .before .before .before .before .before)) in
-    let s = from-y (c .before .before .before .before) in
-    let h = s .pre .0 .1 in
-    omega arith
+place-within2-requires : tie.Need-place-within2-requires
+place-within2-requires c κs = (from-y (c .before .before .before) .pre, (answer-lt _ _ _ _ (gave-x (c .before .before .before .before .before .before)), answer-lt _ _ _ _ (gave-y (c .before))))
 
 returns-3 : tie.Need-returns-3
-unfolding flatIndex onGridFrom timesStrides strides stridesFrom
-returns-3 c = simp (gave-x (c .before .before .before .before .before .before .before), gave-y (c .before .before), one-mul, mul-one, add-zero)
+returns-3 c = rw (← answer-is _ _ _ _ (gave-x (c .before .before .before .before .before .before .before)), ← answer-is _ _ _ _ (gave-y (c .before .before))) (sym (c .place-within2 .ensures))
 
 pub translate-to-index2-spec : {M : Type 1} → statement M
 translate-to-index2-spec =
@@ -94,8 +77,7 @@ translate-to-index2-spec =
     axis-at-requires-2
     enum-known-r-2
     enum-known-y
-    mul-t11
-    add-t12
+    place-within2-requires
     returns
     returns-2
     returns-3)

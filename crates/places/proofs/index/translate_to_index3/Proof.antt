@@ -1,17 +1,13 @@
 -- The axes answer one after the other: the first refusal stands, and indices below their extents make a place.
-use Prim.Native.Nat.{ℕ, _*_, _≤_}
+use Prim.Native.Nat.{ℕ}
 use mathlib.Core.Path.{_≡_, sym, ap, _∙_}
-use native.Mathlib.Nat.{one-mul, mul-one, add-zero, mul-le-mul, add-assoc}
-use native.Mathlib.Omega.{arith}
 use lib.IntN.{ℤ}
-use mir.Facts.{fits-le, fits-lit}
 use mir.Syntax.{w64}
 use mir.ValLaws.{toZ-ofZ}
 use borrow.Author.Needs.{needs}
 use Rattle.rules.specs.RefusalNumbers.{Answer, given}
-use Rattle.rules.specs.TheGridAndItsBounds.{strides, stridesFrom}
-use Rattle.rules.specs.Coordinates.{along, orOff, onGridFrom, timesStrides, flatIndex}
-use Rattle.laws.specs.Places.{answer-lt, within-products}
+use Rattle.rules.specs.Coordinates.{along, orOff, onGridFrom, flatIndex}
+use Rattle.laws.specs.Places.{answer-lt, answer-is}
 use Rattle.places.specs.Places.{alongOf}
 use Rattle.places.proofs.index.translate_to_index3.Statement.{statement}
 use Rattle.places.proofs.index.translate_to_index3.Tie as tie
@@ -87,44 +83,11 @@ returns-3 : tie.Need-returns-3
 unfolding flatIndex onGridFrom
 returns-3 c = simp (gave-x (c .before .before .before .before .before .before .before .before .before .before .before), gave-y (c .before .before .before .before .before .before), sym (asked-z (c .before .before .before)) ∙ ap alongOf (c .before .r3 .given .1))
 
--- no product and no sum wraps
-product-y : (c : tie.After-y) → c .y .given .0 .0 * from-y (c .before .before) .args .extents .x ≤ 4096 * 4096
-product-y c = let s = from-y (c .before .before) in within-products (answer-lt _ _ _ _ (gave-y c)) (s .pre .0 .2 .1) (s .pre .0 .1)
-
-stride : (s : tie.Start) → s .args .extents .x * s .args .extents .y ≤ 4096 * 4096
-stride s = mul-le-mul (s .pre .0 .1) (s .pre .0 .2 .1)
-
-product-z : (c : tie.After-z)
-    → c .z .given .0 .0 * (from-z (c .before .before) .args .extents .x * from-z (c .before .before) .args .extents .y) ≤ 4096 * (4096 * 4096)
-product-z c = let s = from-z (c .before .before) in within-products (answer-lt _ _ _ _ (gave-z c)) (s .pre .0 .2 .2 .1) (stride s)
-
-mul-t15 : tie.Need-mul-t15
-mul-t15 c = fits-le (product-y (c .before .before .before .before .before .before .before)) (fits-lit {n = 4096 * 4096} tt)
-
-add-t16 : tie.Need-add-t16
-add-t16 c =
-    let p = product-y (c .before .before .before .before .before .before .before) in
-    let q = answer-lt _ _ _ _ (gave-x (c .before .before .before .before .before .before .before .before .before .before .before .before)) in
-    let h = from-z (c .before .before .before .before) .pre .0 .1 in
-    omega arith
-
-mul-t17 : tie.Need-mul-t17
-mul-t17 c = fits-le (stride (from-z (c .before .before .before .before .before))) (fits-lit {n = 4096 * 4096} tt)
-
-mul-t18 : tie.Need-mul-t18
-mul-t18 c = fits-le (product-z (c .before .before .before)) (fits-lit {n = 4096 * (4096 * 4096)} tt)
-
-add-t19 : tie.Need-add-t19
-add-t19 c =
-    let p = product-y (c .before .before .before .before .before .before .before .before) in
-    let r = product-z (c .before .before .before) in
-    let q = answer-lt _ _ _ _ (gave-x (c .before .before .before .before .before .before .before .before .before .before .before .before .before)) in
-    let h = from-z (c .before .before .before .before .before) .pre .0 .1 in
-    omega arith
+place-within3-requires : tie.Need-place-within3-requires
+place-within3-requires c κs = (from-z (c .before .before .before) .pre, (answer-lt _ _ _ _ (gave-x (c .before .before .before .before .before .before .before .before .before .before .before)), (answer-lt _ _ _ _ (gave-y (c .before .before .before .before .before .before)), answer-lt _ _ _ _ (gave-z (c .before)))))
 
 returns-4 : tie.Need-returns-4
-unfolding flatIndex onGridFrom timesStrides strides stridesFrom
-returns-4 c = simp (gave-x (c .before .before .before .before .before .before .before .before .before .before .before .before .before), gave-y (c .before .before .before .before .before .before .before .before), gave-z (c .before .before .before), one-mul, mul-one, add-zero, add-assoc)
+returns-4 c = rw (← answer-is _ _ _ _ (gave-x (c .before .before .before .before .before .before .before .before .before .before .before .before)), ← answer-is _ _ _ _ (gave-y (c .before .before .before .before .before .before .before)), ← answer-is _ _ _ _ (gave-z (c .before .before))) (sym (c .place-within3 .ensures))
 
 pub translate-to-index3-spec : {M : Type 1} → statement M
 translate-to-index3-spec =
@@ -139,11 +102,7 @@ translate-to-index3-spec =
     axis-at-requires-3
     enum-known-r-3
     enum-known-z
-    mul-t15
-    add-t16
-    mul-t17
-    mul-t18
-    add-t19
+    place-within3-requires
     returns
     returns-2
     returns-3
