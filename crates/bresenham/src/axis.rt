@@ -3,6 +3,7 @@
 ghost use mathlib.Core.Path.{_≡_};
 ghost use lib.Ieee.{binary64};
 ghost use Rattle.rules.specs.TheLine as TheLine;
+ghost use Rattle.laws.specs.Following.{axisMoves};
 ghost use Rattle.bresenham.specs.Axes.{axis, primary};
 use floats::count_of;
 
@@ -127,6 +128,16 @@ fn primary_after(a: Axis) -> Axis
         step: a.step,
         error: a.error,
     }
+}
+
+// Whether axis number `k` moves at a step: the primary always does, another where its error reaches the threshold.
+pub fn moves(a: Axis, k: u64, primary: u64, threshold: f64) -> bool
+    ensures { λ r. ⌜ r ≡ axisMoves binary64 k primary threshold (axis a) ⌝ }
+{
+    if k == primary {
+        return true;
+    }
+    a.error + a.increment >= threshold
 }
 
 // Axis number `k` of a line after a step.

@@ -4,7 +4,9 @@ ghost use mathlib.Core.Path.{_≡_};
 ghost use Prim.Native.Nat.{_<_};
 ghost use lib.Ieee.{binary64};
 ghost use Rattle.rules.specs.TheLine as TheLine;
-ghost use Rattle.types.specs.Points.{point2, point3};
+ghost use Rattle.rules.specs.Coordinates.{truncatedPoint};
+ghost use Rattle.laws.specs.LineSteps.{lineAfter};
+ghost use Rattle.types.specs.Points.{cell2, cell3, point2, point3};
 ghost use Rattle.bresenham.specs.Axes.{primary};
 ghost use Rattle.bresenham.specs.Lines.{line2, line3, plotted2, plotted3, step2, step3};
 use crate::axis::Axis;
@@ -95,16 +97,25 @@ impl BresenhamLine2 {
         }
     }
 
-    // The end's cell, however far the line has come; then nothing remains.
+    // The end's cell, however far the line has come.
+    pub fn last_cell(self) -> Cell2
+        ensures { λ r. ⌜ cell2 r ≡ truncatedPoint (TheLine.ends (line2 self .axes)) ⌝ }
+    {
+        let x = self.x;
+        let y = self.y;
+        Cell2 {
+            x: cell_of(x.end),
+            y: cell_of(y.end),
+        }
+    }
+
+    // The end's cell; then nothing remains.
     fn last_step(self) -> Step2
         ensures { λ r. ⌜ step2 r ≡ TheLine.lastStep (line2 self) ⌝ }
     {
         let x = self.x;
         let y = self.y;
-        let last = Cell2 {
-            x: cell_of(x.end),
-            y: cell_of(y.end),
-        };
+        let last = self.last_cell();
         let rest = BresenhamLine2 {
             x,
             y,
@@ -115,28 +126,37 @@ impl BresenhamLine2 {
         Step2::Cell(last, rest)
     }
 
-    // The current cell, and each axis moved on. One less remains, so something has to: `next` has tested that.
-    fn earlier_step(self) -> Step2
+    // Each axis moved on. One less remains, so something has to: whoever calls has tested that.
+    pub fn moved(self) -> BresenhamLine2
         requires { ⌜ 0 < self .remaining ⌝ }
-        ensures { λ r. ⌜ step2 r ≡ TheLine.earlierStep binary64 (line2 self) ⌝ }
+        ensures { λ r. ⌜ line2 r ≡ lineAfter binary64 (line2 self) ⌝ }
     {
         let x = self.x;
         let y = self.y;
         let primary = self.primary;
         let threshold = self.threshold;
         let remaining: u64 = self.remaining - 1;
-        let here = Cell2 {
-            x: cell_of(x.current),
-            y: cell_of(y.current),
-        };
-        let rest = BresenhamLine2 {
+        BresenhamLine2 {
             x: axis_after(x, 0, primary, threshold),
             y: axis_after(y, 1, primary, threshold),
             primary,
             threshold,
             remaining,
+        }
+    }
+
+    // The current cell, and the line moved on.
+    fn earlier_step(self) -> Step2
+        requires { ⌜ 0 < self .remaining ⌝ }
+        ensures { λ r. ⌜ step2 r ≡ TheLine.earlierStep binary64 (line2 self) ⌝ }
+    {
+        let x = self.x;
+        let y = self.y;
+        let here = Cell2 {
+            x: cell_of(x.current),
+            y: cell_of(y.current),
         };
-        Step2::Cell(here, rest)
+        Step2::Cell(here, self.moved())
     }
 
     // One step along the primary axis.
@@ -192,17 +212,27 @@ impl BresenhamLine3 {
         }
     }
 
+    // As for two axes.
+    pub fn last_cell(self) -> Cell3
+        ensures { λ r. ⌜ cell3 r ≡ truncatedPoint (TheLine.ends (line3 self .axes)) ⌝ }
+    {
+        let x = self.x;
+        let y = self.y;
+        let z = self.z;
+        Cell3 {
+            x: cell_of(x.end),
+            y: cell_of(y.end),
+            z: cell_of(z.end),
+        }
+    }
+
     fn last_step(self) -> Step3
         ensures { λ r. ⌜ step3 r ≡ TheLine.lastStep (line3 self) ⌝ }
     {
         let x = self.x;
         let y = self.y;
         let z = self.z;
-        let last = Cell3 {
-            x: cell_of(x.end),
-            y: cell_of(y.end),
-            z: cell_of(z.end),
-        };
+        let last = self.last_cell();
         let rest = BresenhamLine3 {
             x,
             y,
@@ -214,10 +244,10 @@ impl BresenhamLine3 {
         Step3::Cell(last, rest)
     }
 
-    // As for two axes: `next` has tested that something remains.
-    fn earlier_step(self) -> Step3
+    // As for two axes.
+    pub fn moved(self) -> BresenhamLine3
         requires { ⌜ 0 < self .remaining ⌝ }
-        ensures { λ r. ⌜ step3 r ≡ TheLine.earlierStep binary64 (line3 self) ⌝ }
+        ensures { λ r. ⌜ line3 r ≡ lineAfter binary64 (line3 self) ⌝ }
     {
         let x = self.x;
         let y = self.y;
@@ -225,20 +255,29 @@ impl BresenhamLine3 {
         let primary = self.primary;
         let threshold = self.threshold;
         let remaining: u64 = self.remaining - 1;
-        let here = Cell3 {
-            x: cell_of(x.current),
-            y: cell_of(y.current),
-            z: cell_of(z.current),
-        };
-        let rest = BresenhamLine3 {
+        BresenhamLine3 {
             x: axis_after(x, 0, primary, threshold),
             y: axis_after(y, 1, primary, threshold),
             z: axis_after(z, 2, primary, threshold),
             primary,
             threshold,
             remaining,
+        }
+    }
+
+    fn earlier_step(self) -> Step3
+        requires { ⌜ 0 < self .remaining ⌝ }
+        ensures { λ r. ⌜ step3 r ≡ TheLine.earlierStep binary64 (line3 self) ⌝ }
+    {
+        let x = self.x;
+        let y = self.y;
+        let z = self.z;
+        let here = Cell3 {
+            x: cell_of(x.current),
+            y: cell_of(y.current),
+            z: cell_of(z.current),
         };
-        Step3::Cell(here, rest)
+        Step3::Cell(here, self.moved())
     }
 
     pub fn next(self) -> Step3

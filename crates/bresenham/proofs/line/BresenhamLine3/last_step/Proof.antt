@@ -1,33 +1,15 @@
--- Each index is a call's, and the rest is as it was.
+-- The cell is a call's, and the rest is as it was.
 use borrow.Author.Needs.{needs}
-use Rattle.rules.specs.Coordinates.{truncatedPoint}
 use Rattle.rules.specs.TheLine.{lastStep}
-use Rattle.bresenham.proofs.Laws.{held}
 use Rattle.bresenham.proofs.line.BresenhamLine3.last_step.Statement.{statement}
 use Rattle.bresenham.proofs.line.BresenhamLine3.last_step.Tie as tie
 
-cell-of-requires : tie.Need-cell-of-requires
-cell-of-requires c κs = search needs
-
-cell-of-requires-2 : tie.Need-cell-of-requires-2
-cell-of-requires-2 c κs = search needs
-
-cell-of-requires-3 : tie.Need-cell-of-requires-3
-cell-of-requires-3 c κs = search needs
+last-cell-requires : tie.Need-last-cell-requires
+last-cell-requires c κs = search needs
 
 returns : tie.Need-returns
-unfolding lastStep truncatedPoint
-returns c =
-    let x = c .before .before .cell-of in
-    let y = c .before .cell-of2 in
-    let z = c .cell-of3 in
-    simp (held (x .ok) (x .ensures), held (y .ok) (y .ensures), held (z .ok) (z .ensures))
+unfolding lastStep
+returns c = simp (c .last-cell .ensures)
 
 pub last-step-spec : {M : Type 1} → statement M
-last-step-spec =
-    tie.close
-    (tie.spec
-    cell-of-requires
-    cell-of-requires-2
-    cell-of-requires-3
-    returns)
+last-step-spec = tie.close (tie.spec last-cell-requires returns)
