@@ -2,3 +2,4 @@ pub mod Applying
 pub mod Beaming
 pub mod InOrder
 pub mod Walking
+pub mod Following

@@ -1,6 +1,6 @@
 -- A walk along a line: what holds between its steps, over lines of any number of axes. Whatever the rest of the line does to the lists as
 -- they stand, the whole line does to the lists as they were. Assumes nothing.
-use Prim.Native.Nat.{ℕ, _+_, _≤_}
+use Prim.Native.Nat.{ℕ, _+_, _-_, _<_, _≤_}
 use mathlib.Core.Bool.{Bool, false, cond}
 use mathlib.Core.List.{List, []}
 use mathlib.Core.Path.{_≡_, refl, sym, ap, _∙_}
@@ -10,17 +10,21 @@ use lib.Dec.{eqb}
 use lib.Ieee.{Float, binary64}
 use lib.IntN.{ℤ}
 use lib.ListN.{length}
+use borrow.Author.Tests.{ne-eqb}
 use Rattle.rules.specs.TheGridAndItsBounds.{Head, Grid}
-use Rattle.rules.specs.Coordinates.{flatIndex}
-use Rattle.rules.specs.TheLine.{Line, yields, none, stepOf, lineCells}
+use Rattle.rules.specs.Coordinates.{flatIndex, truncatedPoint}
+use Rattle.rules.specs.RefusalNumbers.{given}
+use Rattle.rules.specs.TheLine.{Line, yields, none, stepOf, lineCells, currents, ends}
 use Rattle.rules.specs.MarksAndFrames.{Mark}
 use Rattle.rules.specs.OneBeam.{markOf, marksAlong}
 use Rattle.laws.specs.Checks.{Ready}
-use Rattle.laws.specs.LineSteps.{marks-step, done, no-cells}
+use Rattle.laws.specs.Following.{drawn-after}
+use Rattle.laws.specs.LineSteps.{lineAfter, lineEnded, goes-on, ends-here, marks-step, done, no-cells}
 use Rattle.laws.specs.MarkLists.{marked-odds, marked-stamps}
 use Rattle.laws.specs.Room.{room}
 use Rattle.marks.specs.Marking.{gridOf}
-use Rattle.beam.specs.Applying.{Applied}
+use Rattle.beam.specs.Applying.{Applied, one}
+use Rattle.beam.specs.Walking.{Walked, Begun}
 use Rattle.beam.proofs.Applying.{none-applied, both-applied}
 
 -- the head still fits the lists after marks
@@ -33,14 +37,6 @@ still-ready h xs odds odds′ stamps stamps′ n r a =
       stamps-count = ap (λ (g : Grid). length (g .stamps)) (a .grid) ∙ marked-stamps binary64 (h .model) (h .frame) xs (gridOf odds stamps) ∙ r .stamps-count;
       frame = r .frame;
     }
-
-pub record Walked (h : Head) (last : Bool) (line : Line) (odds₀ : List Float) (stamps₀ : List ℕ) (rest : Line) (odds : List Float) (stamps : List ℕ) (count remaining : ℕ) : Type 0 where
-  pub left : remaining ≡ rest .remaining
-  pub ready : Ready h (length odds) (length stamps)
-  pub used : count + room (h .frame) stamps ≤ room (h .frame) stamps₀
-  pub whole : (n : ℕ) (odds′ : List Float) (stamps′ : List ℕ)
-      → Applied (marksAlong (h .extents) last (lineCells binary64 rest)) (h .model) (h .frame) odds stamps n odds′ stamps′
-      → Applied (marksAlong (h .extents) last (lineCells binary64 line)) (h .model) (h .frame) odds₀ stamps₀ (count + n) odds′ stamps′
 
 module _ (h : Head) (last : Bool) (line : Line) (odds₀ : List Float) (stamps₀ : List ℕ) where
   pub not-started : Ready h (length odds₀) (length stamps₀) → Walked h last line odds₀ stamps₀ line odds₀ stamps₀ 0 (line .remaining)
@@ -74,3 +70,29 @@ module _ (h : Head) (last : Bool) (line : Line) (odds₀ : List Float) (stamps�
 
     pub stopped : stepOf binary64 rest ≡ none → Applied (marksAlong (h .extents) last (lineCells binary64 line)) (h .model) (h .frame) odds₀ stamps₀ count odds stamps
     stopped e = ended (done binary64 rest e)
+
+-- a step whose cell is on the grid and not the last: a free mark at its place, whatever the last is to be marked as
+module _ (h : Head) (line : Line) (odds₀ : List Float) (stamps₀ : List ℕ) (rest : Line) (odds : List Float) (stamps : List ℕ) (count : ℕ)
+    (b : Begun h line odds₀ stamps₀ rest odds stamps count) where
+  pub goes-free : (at n : ℕ) (odds′ : List Float) (stamps′ : List ℕ) → 1 < rest .remaining → flatIndex (h .extents) (truncatedPoint (currents (rest .axes))) ≡ given at
+      → Applied (one at false) (h .model) (h .frame) odds stamps n odds′ stamps′
+      → Begun h line odds₀ stamps₀ (lineAfter binary64 rest) odds′ stamps′ (count + n)
+  goes-free at n odds′ stamps′ more e a =
+      record {
+        drawn = drawn-after binary64 rest (b .drawn);
+        walked = λ last.
+            one-step h last line odds₀ stamps₀ rest odds stamps count (rest .remaining) (b .walked last) (lineAfter binary64 rest) _ false n odds′ stamps′
+            (goes-on binary64 rest (b .drawn .primary-below) more)
+            (rw (ne-eqb (rest .remaining - 1) 0 (λ z. omega arith)) refl)
+            (rw e a);
+      }
+
+  -- the last cell ends the walk
+  pub goes-last : (last : Bool) (n : ℕ) (odds′ : List Float) (stamps′ : List ℕ) → rest .remaining ≡ 1
+      → Applied (markOf last (flatIndex (h .extents) (truncatedPoint (ends (rest .axes))))) (h .model) (h .frame) odds stamps n odds′ stamps′
+      → Applied (marksAlong (h .extents) last (lineCells binary64 line)) (h .model) (h .frame) odds₀ stamps₀ (count + n) odds′ stamps′
+  goes-last last n odds′ stamps′ one-left a =
+      at-the-end h last line odds₀ stamps₀ (lineEnded rest) odds′ stamps′ (count + n) 0
+      (one-step h last line odds₀ stamps₀ rest odds stamps count (rest .remaining) (b .walked last) (lineEnded rest) _ last n odds′ stamps′
+      (ends-here binary64 rest (b .drawn .primary-below) one-left) refl a)
+      refl

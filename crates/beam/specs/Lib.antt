@@ -1,2 +1,3 @@
 -- What marks and beams leave of the lent lists.
 pub mod Applying
+pub mod Walking

@@ -5,6 +5,7 @@ ghost use lib.Dec.{eqb};
 ghost use lib.Ieee.{binary64};
 ghost use lib.ListN.{length};
 ghost use Rattle.laws.specs.Checks.{Ready};
+ghost use Rattle.laws.specs.Following.{Drawn};
 ghost use Rattle.rules.specs.TheLine.{lineCells};
 ghost use Rattle.rules.specs.OneBeam.{marksAlong};
 ghost use Rattle.types.specs.Points.{extents2, extents3};
@@ -12,6 +13,8 @@ ghost use Rattle.types.specs.Models.{modelOf};
 ghost use Rattle.bresenham.specs.Lines.{line2, line3};
 ghost use Rattle.grid_map.specs.Heads.{head2, head3};
 ghost use Rattle.beam.specs.Applying.{Applied};
+use crate::follow::follow2;
+use crate::follow::follow3;
 use crate::marking::mark_cell2;
 use crate::marking::mark_cell3;
 use bresenham::BresenhamLine2;
@@ -31,8 +34,8 @@ fn ends_occupied(occupied: bool, remaining: u64) -> bool
     false
 }
 
-// On a head that has passed its checks, as `integrate2` requires.
-pub fn walk2(
+// Step by step. On a head that has passed its checks, as `integrate2` requires.
+fn step_along2(
     map: GridMap2,
     odds: &mut [f64],
     stamps: &mut [u32],
@@ -57,8 +60,8 @@ pub fn walk2(
     count
 }
 
-// On a head that has passed its checks, as `integrate3` requires.
-pub fn walk3(
+// As for two axes.
+fn step_along3(
     map: GridMap3,
     odds: &mut [f64],
     stamps: &mut [u32],
@@ -81,4 +84,45 @@ pub fn walk3(
         rest = after;
     }
     count
+}
+
+// The part that can be followed by whole numbers, and then the last cell; step by step where more is left. On a head that has passed its checks,
+// as `integrate2` requires, and a line that the plotter drew.
+pub fn walk2(
+    map: GridMap2,
+    odds: &mut [f64],
+    stamps: &mut [u32],
+    line: BresenhamLine2,
+    occupied: bool,
+) -> u64
+    requires { ⌜ Ready (head2 map) (length (now odds)) (length (now stamps)) ⌝ ∗ ⌜ Drawn (line2 line) ⌝ }
+    ensures { λ r. ⌜ Applied (marksAlong (extents2 (map .extents)) occupied (lineCells binary64 (line2 line))) (modelOf (map .model)) (map .frame .0)
+        (now (odds .entry)) (now (stamps .entry)) r (now (odds .exit)) (now (stamps .exit)) ⌝ }
+{
+    let part = follow2(map, odds, stamps, line);
+    let rest = part.rest;
+    if rest.remaining == 1 {
+        return part.count + mark_cell2(map, odds, stamps, rest.last_cell(), occupied);
+    }
+    part.count + step_along2(map, odds, stamps, rest, occupied)
+}
+
+// As for two axes.
+pub fn walk3(
+    map: GridMap3,
+    odds: &mut [f64],
+    stamps: &mut [u32],
+    line: BresenhamLine3,
+    occupied: bool,
+) -> u64
+    requires { ⌜ Ready (head3 map) (length (now odds)) (length (now stamps)) ⌝ ∗ ⌜ Drawn (line3 line) ⌝ }
+    ensures { λ r. ⌜ Applied (marksAlong (extents3 (map .extents)) occupied (lineCells binary64 (line3 line))) (modelOf (map .model)) (map .frame .0)
+        (now (odds .entry)) (now (stamps .entry)) r (now (odds .exit)) (now (stamps .exit)) ⌝ }
+{
+    let part = follow3(map, odds, stamps, line);
+    let rest = part.rest;
+    if rest.remaining == 1 {
+        return part.count + mark_cell3(map, odds, stamps, rest.last_cell(), occupied);
+    }
+    part.count + step_along3(map, odds, stamps, rest, occupied)
 }

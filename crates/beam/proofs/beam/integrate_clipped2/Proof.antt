@@ -4,6 +4,7 @@ use denote.Ref.{now}
 use borrow.Author.Needs.{needs}
 use Rattle.types.specs.Models.{modelOf}
 use Rattle.rules.specs.OneBeam.{marksBetween}
+use Rattle.laws.specs.Following.{drawn}
 use Rattle.bresenham.specs.Lines.{plotted2}
 use Rattle.clip.specs.Clips.{clip2}
 use Rattle.beam.proofs.Beaming.{missed, not-integrated, integrated-along}
@@ -29,7 +30,7 @@ both-requires : tie.Need-both-requires
 both-requires c κs = search needs
 
 walk2-requires : tie.Need-walk2-requires
-walk2-requires c κs = search needs
+walk2-requires c κs = (c .before .before .before .before .before .before .before .before .before .before .before .before .pre, drawn _ _ _ _ _ _ (sym (c .before .before .before .before .before .before .plotter .ensures) ∙ ap plotted2 (c .before .before .before .before .line .given .1)))
 
 returns : tie.Need-returns
 unfolding marksBetween
