@@ -1,7 +1,7 @@
 // One axis's part of clipping a beam to the map: its slab, whether both ends lie beyond its upper face, the clamp, and a point of the beam.
 // The crate `clip` joins two or three of them.
 ghost use mathlib.Core.Path.{_≡_};
-ghost use mathlib.Core.Bool.{_&&_};
+ghost use mathlib.Core.Bool.{_&&_, cond};
 ghost use lib.Ieee.{binary64, le, add, mul};
 ghost use Rattle.rules.specs.Floats.{numberF};
 ghost use Rattle.rules.specs.OneBeam as OneBeam;
@@ -28,6 +28,13 @@ fn smaller_of(a: f64, b: f64) -> f64
     ensures { λ r. ⌜ r ≡ OneBeam.smallerOf a b ⌝ }
 {
     if b < a { b } else { a }
+}
+
+// The one or the other. Which way a beam goes along an axis is as good as random, so the machine had better not guess it.
+fn chosen(first: bool, a: f64, b: f64) -> f64
+    ensures { λ r. ⌜ r ≡ cond first a b ⌝ }
+{
+    if first { a } else { b }
 }
 
 fn cut_to(near: f64, far: f64, s: Span) -> Passage
@@ -57,11 +64,12 @@ pub fn slab(extent: u64, origin: f64, direction: f64, s: Span) -> Passage
     }
     let near = (0.0 - origin) / direction;
     let far = (limit - origin) / direction;
-    if near > far {
-        cut_to(far, near, s)
-    } else {
-        cut_to(near, far, s)
-    }
+    let backwards = near > far;
+    cut_to(
+        chosen(backwards, far, near),
+        chosen(backwards, near, far),
+        s,
+    )
 }
 
 // Both ends beyond the upper face of an axis: the slabs are closed and the cells half-open, so such a beam lies within the face.
