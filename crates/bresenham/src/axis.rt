@@ -5,6 +5,7 @@ ghost use lib.Ieee.{binary64};
 ghost use Rattle.rules.specs.TheLine as TheLine;
 ghost use Rattle.laws.specs.Following.{axisMoves};
 ghost use Rattle.bresenham.specs.Axes.{axis, primary};
+use floats::chosen;
 use floats::count_of;
 
 // Where the line is along an axis, where it ends, and the error that decides when it moves along it.
@@ -36,13 +37,8 @@ pub fn delta(start: f64, end: f64) -> f64
     ensures { λ r. ⌜ r ≡ TheLine.delta binary64 start end ⌝ }
 {
     let d: f64 = end - start;
-    if d < 0.0 {
-        return -d;
-    }
-    if d == 0.0 {
-        return 0.0;
-    }
-    d
+    let size = chosen(d < 0.0, -d, d);
+    chosen(d == 0.0, 0.0, size)
 }
 
 // The larger of an axis and the best so far; the last of equals.

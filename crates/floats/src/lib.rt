@@ -2,6 +2,7 @@
 // and the cell that it can be followed from by whole steps. The 64 bits are split into sign, exponent and fraction, and the fraction is shifted.
 // Nothing here knows of lines, and of grids only that an axis has at most 4096 cells.
 ghost use mathlib.Core.Path.{_≡_};
+ghost use mathlib.Core.Bool.{cond};
 ghost use Prim.Native.Nat.{_^_, _<_};
 ghost use lib.Ieee.{toUnsigned};
 ghost use lib.Ieee.Scale.{finite};
@@ -68,6 +69,14 @@ pub fn count_of(x: f64) -> u64
         return whole_part(exponent, fraction);
     }
     18446744073709551615
+}
+
+// The one or the other, for a test whose outcome is as good as random: which way a beam goes along an axis, say. Both are worked out already, so
+// the machine need not guess, and a wrong guess costs more than both.
+pub fn chosen(first: bool, a: f64, b: f64) -> f64
+    ensures { λ r. ⌜ r ≡ cond first a b ⌝ }
+{
+    if first { a } else { b }
 }
 
 // Neither a NaN nor an infinity.

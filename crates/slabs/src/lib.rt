@@ -1,11 +1,12 @@
 // One axis's part of clipping a beam to the map: its slab, whether both ends lie beyond its upper face, the clamp, and a point of the beam.
 // The crate `clip` joins two or three of them.
 ghost use mathlib.Core.Path.{_≡_};
-ghost use mathlib.Core.Bool.{_&&_, cond};
+ghost use mathlib.Core.Bool.{_&&_};
 ghost use lib.Ieee.{binary64, le, add, mul};
 ghost use Rattle.rules.specs.Floats.{numberF};
 ghost use Rattle.rules.specs.OneBeam as OneBeam;
 ghost use Rattle.slabs.specs.Spans.{spanOf, passageOf};
+use floats::chosen;
 
 // The fractions of a beam between which it lies in the slabs so far.
 pub struct Span {
@@ -28,13 +29,6 @@ fn smaller_of(a: f64, b: f64) -> f64
     ensures { λ r. ⌜ r ≡ OneBeam.smallerOf a b ⌝ }
 {
     if b < a { b } else { a }
-}
-
-// The one or the other. Which way a beam goes along an axis is as good as random, so the machine had better not guess it.
-fn chosen(first: bool, a: f64, b: f64) -> f64
-    ensures { λ r. ⌜ r ≡ cond first a b ⌝ }
-{
-    if first { a } else { b }
 }
 
 fn cut_to(near: f64, far: f64, s: Span) -> Passage
