@@ -1,6 +1,6 @@
 //! The C face of Tembuzar, as `include/tembuzar.h` declares it. Two and three axes share each struct: an array of N
 //! numbers lies in memory, and crosses in a call, as the header's fields x, y (and z) do. `face.rs` makes the calls
-//! safe; nothing else in this program calls C.
+//! safe, and `records.rs` those of map records; nothing else in this program calls C.
 
 use std::ffi::c_double;
 

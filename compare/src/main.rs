@@ -9,6 +9,7 @@ mod draw;
 mod face;
 mod ffi;
 mod pair;
+mod records;
 mod round;
 mod tally;
 #[cfg(test)]
@@ -22,7 +23,7 @@ use round::{Difference, round};
 use tally::Tally;
 use time::Run;
 
-const USAGE: &str = "usage: compare check SEED BEAMS | compare round SEED ROUND | compare time [ROUNDS]
+const USAGE: &str = "usage: compare check SEED BEAMS | compare round SEED ROUND | compare time [ROUNDS] | compare records
        compare turns original|ours|none ROUNDS CASE";
 
 fn main() -> ExitCode {
@@ -33,6 +34,10 @@ fn main() -> ExitCode {
         (Some("round"), Some(seed), Some(only)) => check_round(seed, only),
         (Some("time"), rounds, None) => {
             time::all(&Run::Timed { rounds: rounds.unwrap_or(501).max(1) as usize });
+            ExitCode::SUCCESS
+        }
+        (Some("records"), None, None) => {
+            records::all();
             ExitCode::SUCCESS
         }
         (Some("turns"), None, Some(rounds)) if words.len() == 4 => {
