@@ -1,5 +1,7 @@
-// The C face: every entry of the library but the lent forms, as a function with the prefix `tembuzar_`, and nothing but conversions. `include/tembuzar.h`
+// The C face: every entry of the library but opening a sweep in a lent head, as a function with the prefix `tembuzar_`, and nothing but conversions. `include/tembuzar.h`
 // declares them and says what a caller owes: lists that are there, as long as said, and that do not overlap. Everything else is answered.
+mod lent2;
+mod lent3;
 mod lines;
 mod map2;
 mod map3;

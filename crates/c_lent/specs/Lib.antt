@@ -1,0 +1,2 @@
+-- The beams of a slice that C lends.
+pub mod CBeams
