@@ -4,7 +4,8 @@
 ghost use mathlib.Core.Path.{_≡_};
 ghost use mathlib.Core.Bool.{cond};
 ghost use Prim.Native.Nat.{_^_, _<_};
-ghost use lib.Ieee.{toUnsigned};
+ghost use lib.Ieee.{binary64, toUnsigned};
+ghost use Rattle.rules.specs.Floats.{numberF};
 ghost use lib.Ieee.Scale.{finite};
 ghost use Rattle.rules.specs.Coordinates.{truncated};
 ghost use Rattle.laws.specs.Floats.Inside.{Followed};
@@ -77,6 +78,16 @@ pub fn chosen(first: bool, a: f64, b: f64) -> f64
     ensures { λ r. ⌜ r ≡ cond first a b ⌝ }
 {
     if first { a } else { b }
+}
+
+// A number as a float, to the nearest. A number of 32 bits, as every cell's is, takes the machine's own conversion.
+pub fn number_of(n: u64) -> f64
+    ensures { λ r. ⌜ r ≡ numberF binary64 n ⌝ }
+{
+    if n < 4294967296 {
+        return (n as u32) as f64;
+    }
+    std::num::nearest_u64_to_f64(n)
 }
 
 // Neither a NaN nor an infinity.

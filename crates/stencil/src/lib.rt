@@ -60,7 +60,7 @@ fn folded_axis(extent: u64, x: f64, cell: u64) -> StencilAxis
     } else {
         StencilAxis {
             cell,
-            offset: x - std::num::nearest_u64_to_f64(cell),
+            offset: x - floats::number_of(cell),
         }
     }
 }
