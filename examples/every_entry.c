@@ -90,6 +90,31 @@ static void two_axes(void)
            m.refusal.number, m.map.frame, odds[11], stamps[11]);
 }
 
+static void lent_forms_of_two_axes(void)
+{
+    enum { CELLS = 5 * 4 };
+    tembuzar_map2 map = tembuzar_new2((tembuzar_extents2){5, 4}, model, odds, CELLS, stamps, CELLS).map;
+    tembuzar_refusal r = tembuzar_open_scan2(&map, stamps, CELLS);
+    printf("open_scan    number %u, %lu by %lu, model %g %g %g, frame %u [0, 5 by 4, 0.75 -0.5 4, 2]\n", r.number,
+           map.extents.x, map.extents.y, map.model.occupied, map.model.free, map.model.ceiling, map.frame);
+    r = tembuzar_open_scan2(&map, stamps, CELLS - 1);
+    printf("open_scan    number %u, frame %u [4, 2]\n", r.number, map.frame);
+    const tembuzar_beam2 beams[] = {
+        {.origin = {4.5, 3.5}, .endpoint = {2.25, 3.25}, .hit = true},
+        {.origin = {0.5, 0.5}, .endpoint = {3.5, 0.5}, .hit = false},
+        {.origin = {4.5, 3.5}, .endpoint = {NAN, 1.0}, .hit = true},
+    };
+    tembuzar_count_answer c = tembuzar_update_beams2(map, odds, CELLS, stamps, CELLS, beams, 2);
+    printf("update_beams number %u, count %lu, odds %g %g %g %g, stamps %u %u [0, 7, 0.75 -0.5 -0.5 -0.5, 5 4]\n",
+           c.refusal.number, c.count, odds[17], odds[18], odds[19], odds[2], stamps[17], stamps[2]);
+    tembuzar_open_scan2(&map, stamps, CELLS);
+    c = tembuzar_update_beams2(map, odds, CELLS, stamps, CELLS, beams, 3);
+    printf("update_beams number %u, values %u, beam %lu, count so far %lu, count %lu, odds %g %g [7, 2, 2, 7, 0, 1.5 -1]\n",
+           c.refusal.number, c.refusal.values, c.refusal.place, c.refusal.count, c.count, odds[17], odds[2]);
+    c = tembuzar_update_beams2(map, odds, CELLS, stamps, CELLS, NULL, 0);
+    printf("update_beams number %u, count %lu [0, 0]\n", c.refusal.number, c.count);
+}
+
 static void record_of_three_axes(tembuzar_map3 map)
 {
     enum { CELLS = 5 * 4 * 3, BYTES = 43 + 4 * 3 * (3 + 8 * 5) + 3 };
@@ -163,11 +188,38 @@ static void three_axes(void)
            m.refusal.number, m.map.frame, odds[11], stamps[11]);
 }
 
+static void lent_forms_of_three_axes(void)
+{
+    enum { CELLS = 5 * 4 * 3 };
+    tembuzar_map3 map = tembuzar_new3((tembuzar_extents3){5, 4, 3}, model, odds, CELLS, stamps, CELLS).map;
+    tembuzar_refusal r = tembuzar_open_scan3(&map, stamps, CELLS);
+    printf("open_scan    number %u, %lu by %lu by %lu, model %g %g %g, frame %u [0, 5 by 4 by 3, 0.75 -0.5 4, 2]\n", r.number,
+           map.extents.x, map.extents.y, map.extents.z, map.model.occupied, map.model.free, map.model.ceiling, map.frame);
+    r = tembuzar_open_scan3(&map, stamps, CELLS - 1);
+    printf("open_scan    number %u, frame %u [4, 2]\n", r.number, map.frame);
+    const tembuzar_beam3 beams[] = {
+        {.origin = {4.5, 3.5, 2.5}, .endpoint = {2.25, 3.25, 2.75}, .hit = true},
+        {.origin = {0.5, 0.5, 1.5}, .endpoint = {3.5, 0.5, 1.5}, .hit = false},
+        {.origin = {4.5, 3.5, 2.5}, .endpoint = {1.0, NAN, 1.0}, .hit = true},
+    };
+    tembuzar_count_answer c = tembuzar_update_beams3(map, odds, CELLS, stamps, CELLS, beams, 2);
+    printf("update_beams number %u, count %lu, odds %g %g %g %g, stamps %u %u [0, 7, 0.75 -0.5 -0.5 -0.5, 5 4]\n",
+           c.refusal.number, c.count, odds[57], odds[58], odds[59], odds[22], stamps[57], stamps[22]);
+    tembuzar_open_scan3(&map, stamps, CELLS);
+    c = tembuzar_update_beams3(map, odds, CELLS, stamps, CELLS, beams, 3);
+    printf("update_beams number %u, values %u, beam %lu, count so far %lu, count %lu, odds %g %g [7, 2, 2, 7, 0, 1.5 -1]\n",
+           c.refusal.number, c.refusal.values, c.refusal.place, c.refusal.count, c.count, odds[57], odds[22]);
+    c = tembuzar_update_beams3(map, odds, CELLS, stamps, CELLS, NULL, 0);
+    printf("update_beams number %u, count %lu [0, 0]\n", c.refusal.number, c.count);
+}
+
 int main(void)
 {
     printf("two axes\n");
     two_axes();
+    lent_forms_of_two_axes();
     printf("three axes\n");
     three_axes();
+    lent_forms_of_three_axes();
     return 0;
 }

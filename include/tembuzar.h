@@ -24,7 +24,9 @@
  *      and read_record take odds and stamps that are not, and write_record an output that is not. Where the number is
  *      0, the pointer may be NULL.
  *   2. Where a call takes several lists, those that it may change (those not const) overlap no other of its lists.
- *   3. A bool is true or false.
+ *   3. A bool is true or false, in a list of beams too.
+ *   4. A pointer to a head, which open_scan takes, is not NULL. The head is there, set, aligned and untouched by others, as
+ *      the elements of a list are, and overlaps no list of the call.
  *
  *   Nothing else. A list of the wrong length, extents or a model out of bounds, a cell off the grid, NaN and
  *   infinity, a head that no function gave: each is answered, and no call crashes or does not return.
@@ -33,8 +35,8 @@
  * WHAT IS ANSWERED
  *
  *   Every answer holds a tembuzar_refusal. Its number is 0 where the call was answered. Else it is one of the
- *   numbers below, what was asked for is 0 throughout, and the lists lent to the call are as they were; with one
- *   exception: a list of beams refused with 7 at one beam keeps the votes of the beams before it.
+ *   numbers below, what was asked for is 0 throughout, and the lists and the head lent to the call are as they were; with
+ *   one exception: a list of beams refused with 7 at one beam keeps the votes of the beams before it.
  *   A call that several refusals fit gives the first in the order that the call's comment lists.
  *
  *   Points are in cells: the cell (0, 0) goes from 0.0 up to 1.0 on both axes. Floats are IEEE 754 doubles.
@@ -286,6 +288,10 @@ tembuzar_map_answer2 tembuzar_reset2(tembuzar_map2 map,
  * from TEMBUZAR_HIGHEST_FRAME on, stamps become 0 and frames start again at 1. Refuses with 1, 2, 4. */
 tembuzar_map_answer2 tembuzar_begin_scan2(tembuzar_map2 map, uint32_t *stamps, size_t stamps_count);
 
+/* Opens a sweep in a head where it stands: as tembuzar_begin_scan2, but the next frame is written into *map, and nothing
+ * else of it. number is 0 where it was done; a refused call leaves *map as it was. map is never NULL. Refuses with 1, 2, 4. */
+tembuzar_refusal tembuzar_open_scan2(tembuzar_map2 *map, uint32_t *stamps, size_t stamps_count);
+
 /* A list of beams, in order. numbers has 4 for each beam, origin x, y, then endpoint x, y;
  * hits has a byte for each beam, 1 for a return and 0 for a beam that ran out. The count is of the whole list.
  * Refuses with 1, 2, 3, 4, 9, 8, 7; with 7 at one beam, the beams before it stay, and the refusal gives the
@@ -294,6 +300,14 @@ tembuzar_count_answer tembuzar_update_scan2(tembuzar_map2 map,
                                             double *odds, size_t odds_count, uint32_t *stamps, size_t stamps_count,
                                             const double *numbers, size_t numbers_count,
                                             const uint8_t *hits, size_t hits_count);
+
+/* A list of beams, in order, as structs: beams points to an array of beams_count of them, and may be NULL where there are
+ * none. What tembuzar_update_scan2 does with the same beams; no list of structs has a wrong shape.
+ * Refuses with 1, 2, 3, 4, 9, 7; with 7 at one beam, the beams before it stay, and the refusal gives the beam's place and
+ * their count. */
+tembuzar_count_answer tembuzar_update_beams2(tembuzar_map2 map,
+                                             double *odds, size_t odds_count, uint32_t *stamps, size_t stamps_count,
+                                             const tembuzar_beam2 *beams, size_t beams_count);
 
 /* One beam. The part of it that lies on the grid is walked cell by cell; all but the last are marked free, and the
  * last is marked occupied if the beam is a hit and ended on the grid, else free. The count is of the marks that
@@ -346,10 +360,16 @@ tembuzar_map_answer3 tembuzar_reset3(tembuzar_map3 map,
 
 tembuzar_map_answer3 tembuzar_begin_scan3(tembuzar_map3 map, uint32_t *stamps, size_t stamps_count);
 
+tembuzar_refusal tembuzar_open_scan3(tembuzar_map3 *map, uint32_t *stamps, size_t stamps_count);
+
 tembuzar_count_answer tembuzar_update_scan3(tembuzar_map3 map,
                                             double *odds, size_t odds_count, uint32_t *stamps, size_t stamps_count,
                                             const double *numbers, size_t numbers_count,
                                             const uint8_t *hits, size_t hits_count);
+
+tembuzar_count_answer tembuzar_update_beams3(tembuzar_map3 map,
+                                             double *odds, size_t odds_count, uint32_t *stamps, size_t stamps_count,
+                                             const tembuzar_beam3 *beams, size_t beams_count);
 
 tembuzar_count_answer tembuzar_update_ray3(tembuzar_map3 map,
                                            double *odds, size_t odds_count, uint32_t *stamps, size_t stamps_count,
