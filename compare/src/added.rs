@@ -163,7 +163,13 @@ fn maps<L: Face<N>, const N: usize>(input: &mut Input<N>, tally: &mut Tally) -> 
     refused(input, tally, ("reset", &[Odds, Stamps]), |i, want| {
         no_map(L::reset(i.head, &mut i.odds, &mut i.stamps), want)
     })?;
-    refused(input, tally, ("begin_scan", &[Stamps]), |i, want| no_map(L::begin_scan(i.head, &mut i.stamps), want))
+    refused(input, tally, ("begin_scan", &[Stamps]), |i, want| no_map(L::begin_scan(i.head, &mut i.stamps), want))?;
+    refused(input, tally, ("open_scan", &[Stamps]), |i, want| {
+        let before = i.head;
+        answers::refusal(L::open_scan(&mut i.head, &mut i.stamps), Err(want))?;
+        let kept = answers::same_head(&i.head, &before);
+        if kept { Ok(()) } else { Err("a refused call wrote to the head".into()) }
+    })
 }
 
 /// The cell and the beam are on no grid and not finite: 5 and 7 come last.
@@ -183,6 +189,10 @@ fn sweeps<L: Face<N>, const N: usize>(input: &mut Input<N>, tally: &mut Tally) -
     })?;
     refused(input, tally, ("update_scan", &[Model, Odds, Stamps, Frame, List]), |i, want| {
         answers::count(L::update_scan(i.head, &mut i.odds, &mut i.stamps, &i.numbers, &i.hits), Err(want))
+    })?;
+    refused(input, tally, ("update_beams", &marks), |i, want| {
+        let beams = [Beam { origin: nowhere, endpoint: nowhere, hit: true }];
+        answers::count(L::update_beams(i.head, &mut i.odds, &mut i.stamps, &beams), Err(want))
     })?;
     refused(input, tally, ("set_log_odds", &[Model, Odds]), |i, want| {
         answers::refusal(L::set_log_odds(i.head, &mut i.odds, off, 1.0), Err(want))

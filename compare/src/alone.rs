@@ -13,7 +13,7 @@ use crate::tally::Tally;
 
 const MOST_CELLS: u128 = 16_777_216;
 
-/// Opens, then resets, a small map at any frame at all.
+/// Opens, in both ways, and resets a small map at any frame at all.
 pub fn odd_frame<L: Face<N>, const N: usize>(rng: &mut Rng, tally: &mut Tally) -> Verdict {
     let extents = generate::extents(rng, 5);
     let mut state = draw::state(rng, extents);
@@ -23,7 +23,9 @@ pub fn odd_frame<L: Face<N>, const N: usize>(rng: &mut Rng, tally: &mut Tally) -
         let (odds, stamps) = (hex(&state.odds), &state.stamps);
         format!("extents {extents:?} at frame {}, odds {odds} stamps {stamps:?}\n{why}", state.frame)
     };
-    work.open::<L>().and_then(|_| work.whole_map()).map_err(told)?;
+    work.open_by::<L>(false).and_then(|_| work.whole_map()).map_err(told)?;
+    let mut work = Work::new(rng.clone(), Pair::of(&state), tally);
+    work.open_by::<L>(true).and_then(|_| work.whole_map()).map_err(told)?;
     let mut work = Work::new(rng.clone(), Pair::of(&state), tally);
     work.reset::<L>().map_err(told)
 }

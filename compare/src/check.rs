@@ -7,7 +7,7 @@ use oracle::rust::{Beam, RustMap};
 use crate::answers::{self, Verdict, hex, refusal_of, refused_list};
 use crate::draw;
 use crate::face::Face;
-use crate::ffi::{self, Cell, Point, Refusal};
+use crate::ffi::{self, Cell, MapAnswer, Point, Refusal};
 use crate::pair::Pair;
 use crate::tally::Tally;
 
@@ -21,6 +21,10 @@ pub struct Work<'a, const N: usize> {
     beams: Vec<Beam<f64, N>>,
     numbers: Vec<f64>,
     hits: Vec<u8>,
+    structs: Vec<ffi::Beam<N>>,
+    /// Lists go by turns as flat numbers and as structs, and sweeps are opened by turns by value and in a lent head.
+    lists_made: u64,
+    opens_made: u64,
 }
 
 /// Up to this many cells, the whole map is compared after each ray; above, after a row of rays.
@@ -37,7 +41,8 @@ fn beam_text<const N: usize>(beam: &Beam<f64, N>) -> String {
 impl<'a, const N: usize> Work<'a, N> {
     pub fn new(rng: Rng, pair: Pair<N>, tally: &'a mut Tally) -> Self {
         let spare = pair.original.clone();
-        Self { rng, pair, tally, spare, beams: Vec::new(), numbers: Vec::new(), hits: Vec::new() }
+        let (beams, numbers, hits, structs) = (Vec::new(), Vec::new(), Vec::new(), Vec::new());
+        Self { rng, pair, tally, spare, beams, numbers, hits, structs, lists_made: 0, opens_made: 0 }
     }
 
     /// The whole map on both sides.
@@ -87,15 +92,18 @@ impl<'a, const N: usize> Work<'a, N> {
         if self.pair.cells() <= COMPARED_EACH_TIME { self.whole_map() } else { Ok(()) }
     }
 
-    /// A list of beams, as flat numbers.
+    /// A list of beams, as flat numbers or as structs.
     pub fn lists<L: Face<N>>(&mut self) -> Verdict {
         let opened = !self.rng.chance(4);
         if opened {
             self.open::<L>()?;
         }
         self.draw_list();
-        let what = if opened { "list of beams, a sweep opened before it" } else { "list of beams" };
-        self.list::<L>().map_err(|why| self.with_beams(what, &why))
+        self.lists_made += 1;
+        let structs = self.lists_made % 2 == 0;
+        let what = if structs { "list of structs" } else { "list of beams" };
+        let before = if opened { ", a sweep opened before it" } else { "" };
+        self.list::<L>(structs).map_err(|why| self.with_beams(&format!("{what}{before}"), &why))
     }
 
     fn draw_list(&mut self) {
@@ -115,21 +123,29 @@ impl<'a, const N: usize> Work<'a, N> {
         }
         self.numbers.clear();
         self.hits.clear();
+        self.structs.clear();
         for beam in &self.beams {
+            self.structs.push(c_beam(beam));
             self.numbers.extend_from_slice(&beam.origin);
             self.numbers.extend_from_slice(&beam.endpoint);
             self.hits.push(u8::from(beam.hit));
         }
     }
 
-    fn list<L: Face<N>>(&mut self) -> Verdict {
+    fn list<L: Face<N>>(&mut self, structs: bool) -> Verdict {
         self.spare.restore(&self.pair.original);
         let theirs = self.pair.original.update_scan(&self.beams).map_err(|_| self.beam_by_beam());
         let head = self.pair.head;
         let (odds, stamps) = self.pair.lists();
-        let ours = L::update_scan(head, odds, stamps, &self.numbers, &self.hits);
+        let ours = match structs {
+            true => L::update_beams(head, odds, stamps, &self.structs),
+            false => L::update_scan(head, odds, stamps, &self.numbers, &self.hits),
+        };
+        let beams = theirs.map_or_else(|why| why.place + 1, |_| self.beams.len() as u64);
         self.tally.lists += 1;
-        self.tally.list_beams += theirs.map_or_else(|why| why.place + 1, |_| self.beams.len() as u64);
+        self.tally.list_beams += beams;
+        self.tally.struct_lists += u64::from(structs);
+        self.tally.struct_beams += u64::from(structs) * beams;
         self.tally.lists_refused += u64::from(theirs.is_err());
         self.tally.changed += theirs.map_or_else(|why| why.count, |count| count as u64);
         answers::count(ours, theirs)?;
@@ -230,11 +246,23 @@ impl<'a, const N: usize> Work<'a, N> {
 
     /// The next sweep of this map.
     pub fn open<L: Face<N>>(&mut self) -> Verdict {
+        self.opens_made += 1;
+        self.open_by::<L>(self.opens_made % 2 == 0)
+    }
+
+    /// The next sweep, in a head by value or in a lent one.
+    pub fn open_by<L: Face<N>>(&mut self, lent: bool) -> Verdict {
         self.pair.original.begin_scan();
-        let head = self.pair.head;
-        let ours = L::begin_scan(head, self.pair.lists().1);
+        let mut head = self.pair.head;
+        let stamps = self.pair.lists().1;
+        let ours = match lent {
+            true => MapAnswer { refusal: L::open_scan(&mut head, stamps), map: head },
+            false => L::begin_scan(head, stamps),
+        };
         self.tally.opens += 1;
-        answers::head(ours, Ok(self.pair.original_head())).map_err(|why| format!("open\n{why}"))?;
+        self.tally.lent_opens += u64::from(lent);
+        let what = if lent { "open in a lent head" } else { "open" };
+        answers::head(ours, Ok(self.pair.original_head())).map_err(|why| format!("{what}\n{why}"))?;
         self.pair.head = ours.map;
         Ok(())
     }

@@ -10,7 +10,9 @@ pub trait Face<const N: usize> {
     fn new(extents: Extents<N>, model: Model, odds: &mut [f64], stamps: &mut [u32]) -> MapAnswer<N>;
     fn reset(map: Map<N>, odds: &mut [f64], stamps: &mut [u32]) -> MapAnswer<N>;
     fn begin_scan(map: Map<N>, stamps: &mut [u32]) -> MapAnswer<N>;
+    fn open_scan(map: &mut Map<N>, stamps: &mut [u32]) -> Refusal;
     fn update_scan(map: Map<N>, odds: &mut [f64], stamps: &mut [u32], numbers: &[f64], hits: &[u8]) -> CountAnswer;
+    fn update_beams(map: Map<N>, odds: &mut [f64], stamps: &mut [u32], beams: &[Beam<N>]) -> CountAnswer;
     fn update_ray(map: Map<N>, odds: &mut [f64], stamps: &mut [u32], beam: Beam<N>) -> CountAnswer;
     fn mark_free(map: Map<N>, odds: &mut [f64], stamps: &mut [u32], cell: Cell<N>) -> MarkAnswer;
     fn mark_occupied(map: Map<N>, odds: &mut [f64], stamps: &mut [u32], cell: Cell<N>) -> MarkAnswer;
@@ -27,13 +29,14 @@ pub struct Tembuzar;
 
 /// The declarations of one number of axes, and the safe calls over them. The names are the header's.
 macro_rules! face {
-    ($n:literal, $new:ident, $reset:ident, $begin_scan:ident, $update_scan:ident, $update_ray:ident, $mark_free:ident,
-     $mark_occupied:ident, $set_log_odds:ident, $log_odds_at:ident, $sample_log_odds:ident, $cell_containing:ident,
-     $plotter:ident, $step:ident) => {
+    ($n:literal, $new:ident, $reset:ident, $begin_scan:ident, $open_scan:ident, $update_scan:ident, $update_beams:ident,
+     $update_ray:ident, $mark_free:ident, $mark_occupied:ident, $set_log_odds:ident, $log_odds_at:ident,
+     $sample_log_odds:ident, $cell_containing:ident, $plotter:ident, $step:ident) => {
         unsafe extern "C" {
             fn $new(e: Extents<$n>, m: Model, o: *mut f64, oc: usize, s: *mut u32, sc: usize) -> MapAnswer<$n>;
             fn $reset(m: Map<$n>, o: *mut f64, oc: usize, s: *mut u32, sc: usize) -> MapAnswer<$n>;
             fn $begin_scan(m: Map<$n>, s: *mut u32, sc: usize) -> MapAnswer<$n>;
+            fn $open_scan(m: *mut Map<$n>, s: *mut u32, sc: usize) -> Refusal;
             fn $update_scan(
                 m: Map<$n>,
                 o: *mut f64,
@@ -44,6 +47,15 @@ macro_rules! face {
                 nc: usize,
                 h: *const u8,
                 hc: usize,
+            ) -> CountAnswer;
+            fn $update_beams(
+                m: Map<$n>,
+                o: *mut f64,
+                oc: usize,
+                s: *mut u32,
+                sc: usize,
+                b: *const Beam<$n>,
+                bc: usize,
             ) -> CountAnswer;
             fn $update_ray(m: Map<$n>, o: *mut f64, oc: usize, s: *mut u32, sc: usize, b: Beam<$n>) -> CountAnswer;
             fn $mark_free(m: Map<$n>, o: *mut f64, oc: usize, s: *mut u32, sc: usize, c: Cell<$n>) -> MarkAnswer;
@@ -56,7 +68,7 @@ macro_rules! face {
             fn $step(l: Line<$n>) -> StepAnswer<$n>;
         }
 
-        // Each call below lends whole slices, which is all that the header asks.
+        // Each call below lends whole slices, and a head that is there, which is all that the header asks.
         impl Face<$n> for Tembuzar {
             fn new(e: Extents<$n>, m: Model, o: &mut [f64], s: &mut [u32]) -> MapAnswer<$n> {
                 unsafe { $new(e, m, o.as_mut_ptr(), o.len(), s.as_mut_ptr(), s.len()) }
@@ -67,9 +79,15 @@ macro_rules! face {
             fn begin_scan(m: Map<$n>, s: &mut [u32]) -> MapAnswer<$n> {
                 unsafe { $begin_scan(m, s.as_mut_ptr(), s.len()) }
             }
+            fn open_scan(m: &mut Map<$n>, s: &mut [u32]) -> Refusal {
+                unsafe { $open_scan(m, s.as_mut_ptr(), s.len()) }
+            }
             fn update_scan(m: Map<$n>, o: &mut [f64], s: &mut [u32], n: &[f64], h: &[u8]) -> CountAnswer {
                 let (oc, sc, nc, hc) = (o.len(), s.len(), n.len(), h.len());
                 unsafe { $update_scan(m, o.as_mut_ptr(), oc, s.as_mut_ptr(), sc, n.as_ptr(), nc, h.as_ptr(), hc) }
+            }
+            fn update_beams(m: Map<$n>, o: &mut [f64], s: &mut [u32], b: &[Beam<$n>]) -> CountAnswer {
+                unsafe { $update_beams(m, o.as_mut_ptr(), o.len(), s.as_mut_ptr(), s.len(), b.as_ptr(), b.len()) }
             }
             fn update_ray(m: Map<$n>, o: &mut [f64], s: &mut [u32], b: Beam<$n>) -> CountAnswer {
                 unsafe { $update_ray(m, o.as_mut_ptr(), o.len(), s.as_mut_ptr(), s.len(), b) }
@@ -107,7 +125,9 @@ face!(
     tembuzar_new2,
     tembuzar_reset2,
     tembuzar_begin_scan2,
+    tembuzar_open_scan2,
     tembuzar_update_scan2,
+    tembuzar_update_beams2,
     tembuzar_update_ray2,
     tembuzar_mark_free2,
     tembuzar_mark_occupied2,
@@ -123,7 +143,9 @@ face!(
     tembuzar_new3,
     tembuzar_reset3,
     tembuzar_begin_scan3,
+    tembuzar_open_scan3,
     tembuzar_update_scan3,
+    tembuzar_update_beams3,
     tembuzar_update_ray3,
     tembuzar_mark_free3,
     tembuzar_mark_occupied3,

@@ -8,6 +8,8 @@ pub struct Tally {
     pub lists: u64,
     pub list_beams: u64,
     pub lists_refused: u64,
+    pub struct_lists: u64,
+    pub struct_beams: u64,
     pub changed: u64,
     pub marks: u64,
     pub sets: u64,
@@ -15,6 +17,7 @@ pub struct Tally {
     pub cells: u64,
     pub samples: u64,
     pub opens: u64,
+    pub lent_opens: u64,
     pub resets: u64,
     pub news: u64,
     pub lines: u64,
@@ -38,13 +41,14 @@ impl Tally {
         line("beams", self.beams(), "");
         line("  one by one", self.rays, &format!("({} refused)", self.rays_refused));
         line("  in lists", self.list_beams, &format!("({} lists, {} refused)", self.lists, self.lists_refused));
+        line("    of them as structs", self.struct_beams, &format!("({} lists)", self.struct_lists));
         line("  marks that changed a cell", self.changed, "");
         line("marks", self.marks, "");
         line("sets", self.sets, "");
         line("reads", self.reads, "");
         line("cells of points", self.cells, "");
         line("samples", self.samples, "");
-        line("opens", self.opens, "");
+        line("opens", self.opens, &format!("({} in a lent head)", self.lent_opens));
         line("resets", self.resets, "");
         line("new maps", self.news, "");
         line("lines", self.lines, &format!("({} steps)", self.steps));

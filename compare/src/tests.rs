@@ -47,6 +47,13 @@ const LINE_THRESHOLD_BIT: u32 = 19;
 const STEP_REMAINING: u32 = 20;
 const READ_ODDS_BIT: u32 = 21;
 const NEW_MODEL: u32 = 22;
+const STRUCTS_ODDS_BIT: u32 = 23;
+const STRUCTS_PLACE: u32 = 24;
+const STRUCTS_LAST_BEAM: u32 = 25;
+const STRUCTS_HIT: u32 = 26;
+const LENT_FRAME: u32 = 27;
+const LENT_MODEL_BIT: u32 = 28;
+const LENT_REFUSED: u32 = 29;
 
 /// The lowest bit of the fraction, turned over.
 fn turn(x: &mut f64) {
@@ -88,6 +95,17 @@ where
         }
         answer
     }
+    fn open_scan(map: &mut Map<N>, stamps: &mut [u32]) -> Refusal {
+        let frame = map.frame;
+        let answer = Tembuzar::open_scan(map, stamps);
+        match WRONG.get() {
+            LENT_FRAME if map.frame == 1 => map.frame = frame,
+            LENT_MODEL_BIT if answer.number == 0 => turn(&mut map.model.free),
+            LENT_REFUSED if answer.number != 0 => map.frame ^= 1,
+            _ => (),
+        }
+        answer
+    }
     fn update_scan(map: Map<N>, odds: &mut [f64], stamps: &mut [u32], numbers: &[f64], hits: &[u8]) -> CountAnswer {
         let skip = usize::from(is(LIST_LAST_BEAM) && hits.len() > 1 && numbers.len() == 2 * N * hits.len());
         let (numbers, hits) = (&numbers[..numbers.len() - 2 * N * skip], &hits[..hits.len() - skip]);
@@ -99,6 +117,22 @@ where
             LIST_COUNT if changed => answer.count += 1,
             LIST_PLACE if answer.refusal.number == 7 => answer.refusal.place += 1,
             LIST_COUNT_SO_FAR if answer.refusal.number == 7 => answer.refusal.count += 1,
+            _ => (),
+        }
+        answer
+    }
+    fn update_beams(map: Map<N>, odds: &mut [f64], stamps: &mut [u32], beams: &[Beam<N>]) -> CountAnswer {
+        let mut beams = beams.to_vec();
+        if is(STRUCTS_LAST_BEAM) {
+            beams.pop();
+        }
+        if is(STRUCTS_HIT) && !beams.is_empty() {
+            beams[0].hit ^= true;
+        }
+        let mut answer = Tembuzar::update_beams(map, odds, stamps, &beams);
+        match WRONG.get() {
+            STRUCTS_ODDS_BIT if answer.count > 0 => turn(last(odds)),
+            STRUCTS_PLACE if answer.refusal.number == 7 => answer.refusal.place += 1,
             _ => (),
         }
         answer
@@ -204,6 +238,10 @@ fn wrong_beams_are_found() {
     found(LIST_PLACE, "list of beams");
     found(LIST_COUNT_SO_FAR, "list of beams");
     found(LIST_LAST_BEAM, "list of beams");
+    found(STRUCTS_ODDS_BIT, "list of structs");
+    found(STRUCTS_PLACE, "list of structs");
+    found(STRUCTS_LAST_BEAM, "list of structs");
+    found(STRUCTS_HIT, "list of structs");
 }
 
 #[test]
@@ -221,6 +259,9 @@ fn wrong_cells_are_found() {
 fn wrong_maps_and_lines_are_found() {
     found(OPEN_FRAME, "open");
     found(OPEN_BUFFER, "begin_scan");
+    found(LENT_FRAME, "open in a lent head");
+    found(LENT_MODEL_BIT, "open in a lent head");
+    found(LENT_REFUSED, "open_scan");
     found(RESET_ZERO_SIGN, "reset");
     found(NEW_STAMP, "new [");
     found(NEW_MODEL, "new\n");
