@@ -44,7 +44,7 @@ impl<const N: usize> Bench<N> {
         let (odds, stamps) = (vec![0.0; cells], vec![0; cells]);
         let state = MapState { extents, occupied: 0.75, free: -0.5, ceiling: 4.0, odds, stamps, frame };
         let original = RustMap::from_state(&state);
-        let ours = Lists { head: head_of(&state), odds: state.odds, stamps: state.stamps };
+        let ours = Lists { head: head_of(&state), odds: state.odds.clone(), stamps: state.stamps.clone() };
         let numbers = beams.iter().flat_map(|beam| [beam.origin, beam.endpoint]).flatten().collect();
         Self {
             original_start: original.clone(),
@@ -122,13 +122,24 @@ where
         })
     }
 
+    /// In a lent head, as the original's is.
     pub fn our_open(&mut self) -> u64 {
-        self.ours.head = Tembuzar::begin_scan(self.ours.head, &mut self.ours.stamps).map;
-        u64::from(self.ours.head.frame)
+        let refusal = Tembuzar::open_scan(&mut self.ours.head, &mut self.ours.stamps);
+        u64::from(self.ours.head.frame) + u64::from(refusal.number)
     }
 
     pub fn our_opens(&mut self) -> u64 {
         (0..1000).map(|_| black_box(&mut *self).our_open()).fold(0, u64::wrapping_add)
+    }
+
+    /// With the head handed over and back by value.
+    pub fn our_open_by_value(&mut self) -> u64 {
+        self.ours.head = Tembuzar::begin_scan(self.ours.head, &mut self.ours.stamps).map;
+        u64::from(self.ours.head.frame)
+    }
+
+    pub fn our_opens_by_value(&mut self) -> u64 {
+        (0..1000).map(|_| black_box(&mut *self).our_open_by_value()).fold(0, u64::wrapping_add)
     }
 
     pub fn our_reset(&mut self) -> u64 {

@@ -89,11 +89,12 @@ pub enum Style {
     Lattice,
     Beside,
     UpperFaces,
+    NearFaces,
 }
 
 pub fn style(rng: &mut Rng) -> Style {
     use Style::*;
-    rng.pick(&[Finite, Finite, Finite, Fan, Fan, Short, Lattice, Beside, UpperFaces])
+    rng.pick(&[Finite, Finite, Finite, Fan, Fan, Short, Lattice, Beside, UpperFaces, NearFaces])
 }
 
 /// One beam; `eye` is where the beams of a fan start.
@@ -109,6 +110,7 @@ pub fn beam<const N: usize>(rng: &mut Rng, extents: &[usize; N], style: Style, e
         Style::Lattice => (each(extents, |e| half(rng, e)), each(extents, |e| half(rng, e))),
         Style::Beside => beside(rng, extents),
         Style::UpperFaces => (each(extents, |e| rng.between(-e, 2.0 * e)), each(extents, |e| face(rng, e))),
+        Style::NearFaces => (each(extents, |e| near_face(rng, e)), each(extents, |e| rng.between(-0.5, e))),
     };
     Beam { origin, endpoint, hit: !rng.chance(3) }
 }
@@ -129,6 +131,17 @@ fn face(rng: &mut Rng, extent: f64) -> f64 {
         1 => extent.next_down(),
         2 => extent.next_up(),
         _ => rng.between(0.0, extent),
+    }
+}
+
+/// A float close to some cell's face, from about 2^-17 to the next float: where a step of a whole cell rounds across it.
+fn near_face(rng: &mut Rng, extent: f64) -> f64 {
+    let face = rng.below(extent as usize + 1) as f64;
+    let little = 2f64.powi(-17 - rng.below(37) as i32);
+    match rng.below(3) {
+        0 => face - little,
+        1 => face + little,
+        _ => face.next_down(),
     }
 }
 

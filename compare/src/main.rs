@@ -23,7 +23,8 @@ use round::{Difference, round};
 use tally::Tally;
 use time::Run;
 
-const USAGE: &str = "usage: compare check SEED BEAMS | compare round SEED ROUND | compare time [ROUNDS] | compare records
+const USAGE: &str = "usage: compare check SEED BEAMS | compare round SEED ROUND | compare time [ROUNDS]
+       compare growth [ROUNDS] | compare records
        compare turns original|ours|none ROUNDS CASE";
 
 fn main() -> ExitCode {
@@ -34,6 +35,10 @@ fn main() -> ExitCode {
         (Some("round"), Some(seed), Some(only)) => check_round(seed, only),
         (Some("time"), rounds, None) => {
             time::all(&Run::Timed { rounds: rounds.unwrap_or(501).max(1) as usize });
+            ExitCode::SUCCESS
+        }
+        (Some("growth"), rounds, None) => {
+            time::growth(rounds.unwrap_or(51).max(1) as usize);
             ExitCode::SUCCESS
         }
         (Some("records"), None, None) => {

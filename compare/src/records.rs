@@ -46,14 +46,7 @@ macro_rules! recorded {
             fn read(bytes: &[u8], odds: &mut [f64], stamps: &mut [u32]) -> bool {
                 // SAFETY: as above.
                 let answer = unsafe {
-                    $read(
-                        bytes.as_ptr(),
-                        bytes.len(),
-                        odds.as_mut_ptr(),
-                        odds.len(),
-                        stamps.as_mut_ptr(),
-                        stamps.len(),
-                    )
+                    $read(bytes.as_ptr(), bytes.len(), odds.as_mut_ptr(), odds.len(), stamps.as_mut_ptr(), stamps.len())
                 };
                 answer.refusal.number == 0
             }

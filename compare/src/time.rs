@@ -80,11 +80,15 @@ fn timed<const N: usize>(name: &str, rounds: usize, bench: &mut Bench<N>, origin
     println!("{name:<44} {theirs:>12.0} {ours:>12.0} {:>8.3}", theirs / ours);
 }
 
-pub fn all(run: &Run) {
+fn heading(run: &Run) {
     if let Run::Timed { rounds } = run {
         println!("nanoseconds, median of {rounds} rounds");
         println!("{:<44} {:>12} {:>12} {:>8}", "", "original", "ours", "ratio");
     }
+}
+
+pub fn all(run: &Run) {
+    heading(run);
     sweeps(run);
     looks(run);
     heads(run);
@@ -107,6 +111,31 @@ fn sweeps(run: &Run) {
     sweep(run, "10,000 beams mostly off the grid, 256 x 256", wide, &mostly_off(&mut rng, 10_000));
 }
 
+/// How the time of a sweep grows: with the cells along a beam, the cells of the map, the beams, and the axes.
+pub fn growth(rounds: usize) {
+    let run = Run::Timed { rounds };
+    let mut rng = Rng(4);
+    heading(&run);
+    for side in [64, 256, 1024, 4096] {
+        sweep(&run, &format!("360 beams, {side} x {side}"), [side, side], &around(&mut rng, 360, side as f64));
+    }
+    for many in [90, 1440, 5760] {
+        sweep(&run, &format!("{many} beams, 256 x 256"), [256, 256], &around(&mut rng, many, 256.0));
+    }
+    for side in [64, 1024, 4096] {
+        sweep(&run, &format!("360 beams as on 64 x 64, {side} x {side}"), [side, side], &around(&mut rng, 360, 64.0));
+    }
+    for side in [32, 64, 128, 256] {
+        let name = format!("360 beams, {side} x {side} x {side}");
+        sweep(
+            &run,
+            &name,
+            [side, side, side],
+            &around(&mut rng, 360, side as f64).iter().map(tilted).collect::<Vec<_>>(),
+        );
+    }
+}
+
 fn looks(run: &Run) {
     let mut rng = Rng(2);
     let points: Vec<[f64; 2]> = (0..1000).map(|_| [(); 2].map(|_| rng.between(0.0, 255.0))).collect();
@@ -123,6 +152,7 @@ fn heads(run: &Run) {
     let highest = oracle::rust::HIGHEST_FRAME;
     let mut low = Bench::new([256, 256], 1, &[], &[]);
     run.case("opening 1,000 sweeps, 256 x 256", &mut low, Bench::original_opens, Bench::our_opens);
+    run.case("opening 1,000 sweeps, head by value", &mut low, Bench::original_opens, Bench::our_opens_by_value);
     run.case("reset, 256 x 256", &mut low, Bench::original_reset, Bench::our_reset);
     let mut last = Bench::new([256, 256], highest, &[], &[]);
     run.case("opening the sweep after the last frame", &mut last, Bench::original_open, Bench::our_open);
@@ -139,6 +169,24 @@ fn circle(rng: &mut Rng, many: usize) -> Vec<Beam<f64, 2>> {
         Beam { origin: [128.5, 128.5], endpoint, hit: range < 130.0 }
     };
     (0..many).map(beam).collect()
+}
+
+/// A full turn from the middle of a square, each beam to a range between an eighth and half of its side.
+fn around(rng: &mut Rng, many: usize, side: f64) -> Vec<Beam<f64, 2>> {
+    let middle = side / 2.0 + 0.5;
+    let beam = |place: usize| {
+        let angle = place as f64 * std::f64::consts::TAU / many as f64;
+        let range = rng.between(side / 8.0, side / 2.0);
+        let endpoint = [middle + range * angle.cos(), middle + range * angle.sin()];
+        Beam { origin: [middle, middle], endpoint, hit: true }
+    };
+    (0..many).map(beam).collect()
+}
+
+/// The same beam on three axes, climbing along the third as it goes along the first.
+fn tilted(beam: &Beam<f64, 2>) -> Beam<f64, 3> {
+    let ([x, y], [far_x, far_y]) = (beam.origin, beam.endpoint);
+    Beam { origin: [x, y, 0.5], endpoint: [far_x, far_y, 0.5 + (far_x - x).abs() / 2.0], hit: beam.hit }
 }
 
 /// From the ground in the middle of 128 by 128 by 64, upwards.
