@@ -1,7 +1,8 @@
 /*
- * How much stack a list of beams takes: 10 beams and 1,000,000, in two axes and in three. Each list is handed over in one call, by a
+ * How much stack a list of beams takes: 10,000 beams and 1,000,000, in two axes and in three. Each list is handed over in one call, by a
  * thread whose stack is 64 KB beyond the least that the system allows. The stack is filled with a pattern first; afterwards, what has
- * lost the pattern has been used. It is the same for both lists.
+ * lost the pattern has been used. It is the same for both lists: it depends on what beams do, all of which is among the 10,000, and not on how
+ * many there are.
  *
  * Build and run, from the repository's root on x86-64 Linux:
  *
@@ -84,9 +85,9 @@ int main(void)
     }
     printf("a thread's stack of %zu bytes\n", size);
     for (int axes = 2; axes <= 3; axes++) {
-        for (size_t beams = 10; beams <= most; beams *= most / 10) {
+        for (size_t beams = 10000; beams <= most; beams *= most / 10000) {
             struct call c = {axes, beams, numbers, hits, odds, stamps, {{0}, 0}};
-            if (beams == 10)
+            if (beams == 10000)
                 hand_over(&c); /* here first, since the loader takes stack at the first call of memset and memcpy */
             size_t used = stack_used(&c, size);
             printf("%d axes, %7zu beams: number %u, count %llu, stack used %zu bytes\n", axes, beams,
