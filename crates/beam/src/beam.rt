@@ -13,8 +13,8 @@ ghost use Rattle.clip.specs.Clips.{clip2, clip3};
 ghost use Rattle.grid_map.specs.Heads.{head2, head3};
 ghost use Rattle.marks.specs.Marking.{gridOf};
 ghost use Rattle.beam.specs.Applying.{Beamed};
-use crate::walk::walk2;
-use crate::walk::walk3;
+use crate::walk::walk_drawn2;
+use crate::walk::walk_drawn3;
 use bresenham::BresenhamLine2;
 use bresenham::BresenhamLine3;
 use bresenham::Plotted2;
@@ -78,7 +78,7 @@ fn integrate_clipped2(
         Clip2::Miss => CountAnswer::Count(0),
         Clip2::Segment(c) => match BresenhamLine2::plotter(c.entry, c.exit) {
             Plotted2::Refused(r) => CountAnswer::Refused(r),
-            Plotted2::Line(line) => CountAnswer::Count(walk2(
+            Plotted2::Line(line) => CountAnswer::Count(walk_drawn2(
                 map,
                 odds,
                 stamps,
@@ -141,7 +141,7 @@ fn integrate_clipped3(
         Clip3::Miss => CountAnswer::Count(0),
         Clip3::Segment(c) => match BresenhamLine3::plotter(c.entry, c.exit) {
             Plotted3::Refused(r) => CountAnswer::Refused(r),
-            Plotted3::Line(line) => CountAnswer::Count(walk3(
+            Plotted3::Line(line) => CountAnswer::Count(walk_drawn3(
                 map,
                 odds,
                 stamps,

@@ -34,8 +34,8 @@ fn ends_occupied(occupied: bool, remaining: u64) -> bool
     false
 }
 
-// Step by step. On a head that has passed its checks, as `integrate2` requires.
-fn step_along2(
+// Step by step, along any line: what a walk is. On a head that has passed its checks, as `integrate2` requires.
+fn walk2(
     map: GridMap2,
     odds: &mut [f64],
     stamps: &mut [u32],
@@ -61,7 +61,7 @@ fn step_along2(
 }
 
 // As for two axes.
-fn step_along3(
+fn walk3(
     map: GridMap3,
     odds: &mut [f64],
     stamps: &mut [u32],
@@ -86,9 +86,9 @@ fn step_along3(
     count
 }
 
-// The part that can be followed by whole numbers, and then the last cell; step by step where more is left. On a head that has passed its checks,
-// as `integrate2` requires, and a line that the plotter drew.
-pub fn walk2(
+// The same, faster, along a line that the plotter drew: the part that can be followed by whole numbers, and then the last cell; step by step where more is
+// left. On a head that has passed its checks, as `integrate2` requires.
+pub fn walk_drawn2(
     map: GridMap2,
     odds: &mut [f64],
     stamps: &mut [u32],
@@ -104,11 +104,11 @@ pub fn walk2(
     if rest.remaining == 1 {
         return part.count + mark_cell2(map, odds, stamps, rest.last_cell(), occupied);
     }
-    part.count + step_along2(map, odds, stamps, rest, occupied)
+    part.count + walk2(map, odds, stamps, rest, occupied)
 }
 
 // As for two axes.
-pub fn walk3(
+pub fn walk_drawn3(
     map: GridMap3,
     odds: &mut [f64],
     stamps: &mut [u32],
@@ -124,5 +124,5 @@ pub fn walk3(
     if rest.remaining == 1 {
         return part.count + mark_cell3(map, odds, stamps, rest.last_cell(), occupied);
     }
-    part.count + step_along3(map, odds, stamps, rest, occupied)
+    part.count + walk3(map, odds, stamps, rest, occupied)
 }

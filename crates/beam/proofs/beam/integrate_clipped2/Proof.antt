@@ -29,8 +29,8 @@ enum-known-line c = search needs
 both-requires : tie.Need-both-requires
 both-requires c κs = search needs
 
-walk2-requires : tie.Need-walk2-requires
-walk2-requires c κs = (c .before .before .before .before .before .before .before .before .before .before .before .before .pre, drawn _ _ _ _ _ _ (sym (c .before .before .before .before .before .before .plotter .ensures) ∙ ap plotted2 (c .before .before .before .before .line .given .1)))
+walk-drawn2-requires : tie.Need-walk-drawn2-requires
+walk-drawn2-requires c κs = (c .before .before .before .before .before .before .before .before .before .before .before .before .pre, drawn _ _ _ _ _ _ (sym (c .before .before .before .before .before .before .plotter .ensures) ∙ ap plotted2 (c .before .before .before .before .line .given .1)))
 
 returns : tie.Need-returns
 unfolding marksBetween
@@ -48,7 +48,7 @@ same-length-2 c = search needs
 
 returns-3 : tie.Need-returns-3
 unfolding marksBetween
-returns-3 c = rw (ap clip2 (c .before .before .before .before .before .before .before .before .before .before .before .before .before .clip .given .1), sym (c .before .before .before .before .before .before .before .before .before .before .before .plotter .ensures) ∙ ap plotted2 (c .before .before .before .before .before .before .before .before .before .line .given .1), ← c .before .before .before .before .before .both .ensures) (integrated-along (modelOf (c .before .before .before .before .before .before .before .before .before .before .before .before .before .before .before .before .before .args .map .model)) (c .before .before .before .before .before .before .before .before .before .before .before .before .before .before .before .before .before .args .map .frame .0) (now (c .before .before .before .before .before .before .before .before .before .before .before .before .before .before .before .before .before .args .odds)) (now (c .before .before .before .before .before .before .before .before .before .before .before .before .before .before .before .before .before .args .stamps)) _ _ _ _ (c .before .before .before .before .walk2 .ensures))
+returns-3 c = rw (ap clip2 (c .before .before .before .before .before .before .before .before .before .before .before .before .before .clip .given .1), sym (c .before .before .before .before .before .before .before .before .before .before .before .plotter .ensures) ∙ ap plotted2 (c .before .before .before .before .before .before .before .before .before .line .given .1), ← c .before .before .before .before .before .both .ensures) (integrated-along (modelOf (c .before .before .before .before .before .before .before .before .before .before .before .before .before .before .before .before .before .args .map .model)) (c .before .before .before .before .before .before .before .before .before .before .before .before .before .before .before .before .before .args .map .frame .0) (now (c .before .before .before .before .before .before .before .before .before .before .before .before .before .before .before .before .before .args .odds)) (now (c .before .before .before .before .before .before .before .before .before .before .before .before .before .before .before .before .before .args .stamps)) _ _ _ _ (c .before .before .before .before .walk-drawn2 .ensures))
 
 pub integrate-clipped2-spec : {M : Type 1} → statement M
 integrate-clipped2-spec =
@@ -60,7 +60,7 @@ integrate-clipped2-spec =
     enum-known-r
     enum-known-line
     both-requires
-    walk2-requires
+    walk-drawn2-requires
     returns
     returns-2
     same-length
