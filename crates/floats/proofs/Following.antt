@@ -2,7 +2,7 @@
 use Prim.Native.Nat.{ℕ, _+_, _-_, _*_, _/_, _^_, _≤_, min}
 use mathlib.Core.Path.{_≡_, refl, sym, ap, _∙_, subst}
 use mathlib.Core.Bool.{Bool, true, false, not}
-use native.Mathlib.Nat.{mul-one, mul-right-comm, div-mul-le-self}
+use native.Mathlib.Nat.{div-mul-le-self}
 use native.Mathlib.Omega.{arith}
 use lib.IntN.{negsuc}
 use lib.Dec.{T, lit<}
@@ -12,7 +12,7 @@ use lib.Ieee.Fits.{down-pos}
 use Rattle.rules.specs.Floats.{numberF}
 use Rattle.rules.specs.TheGridAndItsBounds.{mostExtent}
 use Rattle.laws.specs.Literals.{one-code}
-use Rattle.laws.specs.Floats.Values.{add-value}
+use Rattle.laws.specs.Floats.Values.{scaled, add-value}
 use Rattle.laws.specs.Floats.Sizes.{AtMost, unsigned, below-exact, number-value}
 use Rattle.laws.specs.Floats.Inside.{Inside, highest, highest-value}
 use Rattle.floats.proofs.Pattern.{signOf, by-pattern}
@@ -30,18 +30,13 @@ below-face-is : below-face ≡ fin false 1_048_575 (negsuc 19)
 unfolding ofBits div sub
 below-face-is = refl
 
-in-parts : (x : Float) (n k : ℕ) → HasValue x false n 1 → HasValue x false (n * k) k
-in-parts nan n k v = absurd v
-in-parts (inf s) n k v = absurd v
-in-parts (fin s m e) n k v = (v .0, ap (λ (a : ℕ). a * k) (sym (mul-one (m * up e)) ∙ v .1) ∙ mul-right-comm n (down e) k)
-
 together : (a b d : ℕ) → sum binary64 false a false b d ≡ round binary64 false (a + b) d
 unfolding sum
 together a b d = refl
 
 bound-value : (c : ℕ) → c ≤ mostExtent → HasValue (add binary64 (numberF binary64 c) below-face) false (highest c) 1_048_576
 bound-value c h =
-    let n = in-parts (numberF binary64 c) c 1_048_576 (number-value binary64 c h) in
+    let n = scaled (numberF binary64 c) false c 1 1_048_576 (number-value binary64 c h) in
     let b : HasValue below-face false 1_048_575 1_048_576 = rw below-face-is (refl, refl) in
     rw (add-value binary64 (numberF binary64 c) below-face false false (c * 1_048_576) 1_048_575 1_048_576 (lit< tt) n b, together (c * 1_048_576) 1_048_575 1_048_576)
     (highest-value c (omega arith))

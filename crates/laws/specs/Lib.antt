@@ -10,6 +10,7 @@ pub mod ModelBounds
 pub mod Places
 pub mod LineSteps
 pub mod Following
+pub mod OnTheMap
 pub mod MarkLists
 pub mod FlatList
 pub mod Room

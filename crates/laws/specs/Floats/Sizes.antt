@@ -18,7 +18,7 @@ use lib.Ieee.Order.{transfer, round-mono}
 use lib.Ieee.Back.{round-whole}
 use Rattle.rules.specs.Floats.{halfF, oneF, numberF, mag}
 use Rattle.laws.specs.Floats.Tests.{order, less-or-equal}
-use Rattle.laws.specs.Floats.Values.{add-value}
+use Rattle.laws.specs.Floats.Values.{scaled, add-value}
 
 -- ---- |±a / c| rounded
 mag-cond : (b : Bool) (x y : Float) → mag (cond b x y) ≡ cond b (mag x) (mag y)
@@ -37,7 +37,7 @@ mag-units f s q k =
     mag-cond b (odd (suc (prec f)) s q k (low f)) (inf s)
     ∙ (unfold mag in ap (λ (x : Float). cond b x (inf false)) (mag-odd (suc (prec f)) s q k (low f)))
 
-mag-round : (f : Format) (s : Bool) (a c : ℕ) → mag (round f s a c) ≡ round f false a c
+pub mag-round : (f : Format) (s : Bool) (a c : ℕ) → mag (round f s a c) ≡ round f false a c
 unfolding round
 mag-round f s a c = mag-units f s _ _
 
@@ -54,22 +54,36 @@ unsigned nan = false
 unsigned (inf s) = not s
 unsigned (fin s m e) = not s
 
-unsigned-odd : (d q k l : ℕ) → T (unsigned (odd d false q k l))
-unfolding odd
-unsigned-odd d zero k l = tt
-unsigned-odd d (suc q) k l = tt
+-- the sign, a zero's too; a NaN has none
+abbrev pub Signed : Bool → Float → Type 0
+Signed s nan = ⊥
+Signed s (inf t) = t ≡ s
+Signed s (fin t m e) = t ≡ s
 
-unsigned-units : (f : Format) (q k : ℕ) → T (unsigned (units f false q k))
+signed-odd : (d : ℕ) (s : Bool) (q k l : ℕ) → Signed s (odd d s q k l)
+unfolding odd
+signed-odd d s zero k l = refl
+signed-odd d s (suc q) k l = refl
+
+signed-units : (f : Format) (s : Bool) (q k : ℕ) → Signed s (units f s q k)
 unfolding units
-unsigned-units f q k = go (ltb (q * 2 ^ k) (2 ^ (low f + suc (emax f))))
+signed-units f s q k = go (ltb (q * 2 ^ k) (2 ^ (low f + suc (emax f))))
   where
-    go : (b : Bool) → T (unsigned (cond b (odd (suc (prec f)) false q k (low f)) (inf false)))
-    go true = unsigned-odd (suc (prec f)) q k (low f)
-    go false = tt
+    go : (b : Bool) → Signed s (cond b (odd (suc (prec f)) s q k (low f)) (inf s))
+    go true = signed-odd (suc (prec f)) s q k (low f)
+    go false = refl
+
+pub signed-round : (f : Format) (s : Bool) (a c : ℕ) → Signed s (round f s a c)
+unfolding round
+signed-round f s a c = signed-units f s _ _
+
+no-sign : (x : Float) → Signed false x → T (unsigned x)
+no-sign nan h = absurd h
+no-sign (inf s) h = subst (λ (b : Bool). T (not b)) (sym h) tt
+no-sign (fin s m e) h = subst (λ (b : Bool). T (not b)) (sym h) tt
 
 pub unsigned-round : (f : Format) (a c : ℕ) → T (unsigned (round f false a c))
-unfolding round
-unsigned-round f a c = unsigned-units f _ _
+unsigned-round f a c = no-sign (round f false a c) (signed-round f false a c)
 
 -- ---- a rounded fraction that is at most an exact one
 pub below-exact : (x v : Float) (c d : ℕ) → 0 < d → HasValue v false c d → T (unsigned x) → T (le x v) → AtMost x c d
@@ -119,14 +133,11 @@ pub edge-value : (f : Format) (n : ℕ) → 0 < n → n ≤ 4096 → HasValue (s
 unfolding sub neg sum
 edge-value f n h k =
     subst (λ (x : Float). HasValue x false (2 * n - 1) 2)
-    (sym (add-value f (numberF f n) (neg halfF) false true (2 * n) 1 2 (zero-lt-suc 1) (doubled (numberF f n) n (number-value f n k)) (refl, refl) ∙ minus-half))
+    (sym (add-value f (numberF f n) (neg halfF) false true (2 * n) 1 2 (zero-lt-suc 1) doubled (refl, refl) ∙ minus-half))
     (halves f false (2 * n - 1) (omega (arith, extents-exact f)))
   where
-    doubled : (x : Float) (n : ℕ) → HasValue x false n 1 → HasValue x false (2 * n) 2
-    doubled nan n v = absurd v
-    doubled (inf s) n v = absurd v
-    doubled (fin s m e) n v =
-        (v .0, ap (λ (x : ℕ). x * 2) (sym (mul-one (m * up e)) ∙ v .1) ∙ mul-right-comm n (down e) 2 ∙ ap (λ (x : ℕ). x * down e) (mul-comm n 2))
+    doubled : HasValue (numberF f n) false (2 * n) 2
+    doubled = subst (λ (z : ℕ). HasValue (numberF f n) false z 2) (mul-comm n 2) (scaled (numberF f n) false n 1 2 (number-value f n k))
 
     minus-half : sum f false (2 * n) true 1 2 ≡ round f false (2 * n - 1) 2
     minus-half = ap (λ (t : Bool). cond t (round f true (1 - 2 * n) 2) (round f false (2 * n - 1) 2)) (le-ltb (2 * n) 1 (omega arith))

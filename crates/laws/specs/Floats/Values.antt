@@ -13,6 +13,13 @@ use lib.Ieee.Exact.{HasValue}
 use lib.Ieee.Scale.{round-same}
 use Rattle.laws.specs.Floats.Tests.{ltb-iff, eqb-iff}
 
+-- ---- a value over a multiple of its divisor
+pub scaled : (x : Float) (s : Bool) (a c k : ℕ) → HasValue x s a c → HasValue x s (a * k) (c * k)
+scaled nan s a c k h = absurd h
+scaled (inf t) s a c k h = absurd h
+scaled (fin t m e) s a c k h =
+    (h .0, sym (mul-assoc (m * up e) c k) ∙ ap (λ (z : ℕ). z * k) (h .1) ∙ mul-right-comm a (down e) k)
+
 -- ---- `add` and `lt` see only the values
 module _ (A B D a b c : ℕ) (P : 0 < D) (Q : 0 < c) (p : A * c ≡ a * D) (q : B * c ≡ b * D) where
   cross-lt : A < B → a < b
