@@ -1,7 +1,9 @@
 -- What a beam leaves, by its marks: none for a miss, those along its line, or a refusal that changes nothing. Assumes nothing.
 use Prim.Native.Nat.{ℕ}
 use mathlib.Core.List.{List, []}
-use mathlib.Core.Path.{refl, ap₂}
+use mathlib.Core.Bool.{Bool, true, false, cond}
+use mathlib.Core.Option.{some, none, Option·some-injective}
+use mathlib.Core.Path.{_≡_, refl, ap₂}
 use native.Mathlib.Omega.{arith}
 use lib.Ieee.{Float, binary64}
 use Rattle.rules.specs.RefusalNumbers.{given, refused}
@@ -26,3 +28,16 @@ module _ (m : Model) (k : ℕ) (odds : List Float) (stamps : List ℕ) where
       → Beamed (integratedMarks binary64 m k (gridOf odds stamps) (given xs)) k stamps (Count.Count n) odds′ stamps′
   integrated-along xs n odds′ stamps′ a =
       record { is = ap₂ (λ (c : ℕ) (g : Grid). record { answer = given c; grid = g }) (a .count) (a .grid); used = a .used }
+
+-- ---- what the answer of a beam that was tried says of its test
+pub not-finite : {A : Type 0} (b : Bool) (x : A) → none ≡ cond b (some x) none → b ≡ false
+not-finite true x e = let z : _≡_ {A = ℕ} 0 1 = cc in absurd (omega arith)
+not-finite false x e = refl
+
+pub is-finite : {A : Type 0} (b : Bool) (x y : A) → some y ≡ cond b (some x) none → b ≡ true
+is-finite true x y e = refl
+is-finite false x y e = let z : _≡_ {A = ℕ} 0 1 = cc in absurd (omega arith)
+
+pub clip-is : {A : Type 0} (b : Bool) (x y : A) → some y ≡ cond b (some x) none → y ≡ x
+clip-is true x y e = Option·some-injective y x e
+clip-is false x y e = let z : _≡_ {A = ℕ} 0 1 = cc in absurd (omega arith)

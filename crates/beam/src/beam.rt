@@ -4,11 +4,10 @@ ghost use mathlib.Core.Bool.{_&&_};
 ghost use lib.Ieee.{binary64};
 ghost use lib.ListN.{length};
 ghost use Rattle.laws.specs.Checks.{Ready};
-ghost use Rattle.rules.specs.Floats.{allFinite};
 ghost use Rattle.rules.specs.OneBeam.{marksBetween, integratedMarks, integratedBeam};
 ghost use Rattle.types.specs.Beams.{isHit, beam2, beam3};
 ghost use Rattle.types.specs.Models.{modelOf};
-ghost use Rattle.types.specs.Points.{extents2, extents3, point2, point3};
+ghost use Rattle.types.specs.Points.{extents2, extents3};
 ghost use Rattle.clip.specs.Clips.{clip2, clip3};
 ghost use Rattle.grid_map.specs.Heads.{head2, head3};
 ghost use Rattle.marks.specs.Marking.{gridOf};
@@ -21,14 +20,13 @@ use bresenham::Plotted2;
 use bresenham::Plotted3;
 use clip::Clip2;
 use clip::Clip3;
-use clip::clip_segment2;
-use clip::clip_segment3;
-use floats::is_finite;
+use clip::Tried2;
+use clip::Tried3;
+use clip::clip_beam2;
+use clip::clip_beam3;
 use grid_map::GridMap2;
 use grid_map::GridMap3;
 use types::CountAnswer;
-use types::Point2;
-use types::Point3;
 use types::RayTermination;
 use types::Refusal;
 use types::ScanBeam2;
@@ -48,15 +46,6 @@ fn both(a: bool, b: bool) -> bool
 {
     if a {
         return b;
-    }
-    false
-}
-
-fn all_finite2(p: Point2) -> bool
-    ensures { λ r. ⌜ r ≡ allFinite (point2 p) ⌝ }
-{
-    if is_finite(p.x) {
-        return is_finite(p.y);
     }
     false
 }
@@ -89,8 +78,7 @@ fn integrate_clipped2(
     }
 }
 
-// One beam on a head that has passed its checks. The points are tried first: clipping an infinite endpoint would collapse the beam to
-// no length and hide the bad input.
+// One beam on a head that has passed its checks.
 pub fn integrate2(
     map: GridMap2,
     odds: &mut [f64],
@@ -104,24 +92,10 @@ pub fn integrate2(
     let origin = beam.origin;
     let endpoint = beam.endpoint;
     let termination = beam.termination;
-    if all_finite2(origin) {
-        if all_finite2(endpoint) {
-            let clip = clip_segment2(map.extents, origin, endpoint);
-            return integrate_clipped2(map, odds, stamps, clip, is_hit(termination));
-        }
+    match clip_beam2(map.extents, origin, endpoint) {
+        Tried2::NotFinite => CountAnswer::Refused(Refusal::Ray),
+        Tried2::Clip(clip) => integrate_clipped2(map, odds, stamps, clip, is_hit(termination)),
     }
-    CountAnswer::Refused(Refusal::Ray)
-}
-
-fn all_finite3(p: Point3) -> bool
-    ensures { λ r. ⌜ r ≡ allFinite (point3 p) ⌝ }
-{
-    if is_finite(p.x) {
-        if is_finite(p.y) {
-            return is_finite(p.z);
-        }
-    }
-    false
 }
 
 // What clipping left of a beam: nothing, or a line to walk along. The head has passed its checks: the entries refuse others.
@@ -152,8 +126,7 @@ fn integrate_clipped3(
     }
 }
 
-// One beam on a head that has passed its checks. The points are tried first: clipping an infinite endpoint would collapse the beam to
-// no length and hide the bad input.
+// One beam on a head that has passed its checks.
 pub fn integrate3(
     map: GridMap3,
     odds: &mut [f64],
@@ -167,11 +140,8 @@ pub fn integrate3(
     let origin = beam.origin;
     let endpoint = beam.endpoint;
     let termination = beam.termination;
-    if all_finite3(origin) {
-        if all_finite3(endpoint) {
-            let clip = clip_segment3(map.extents, origin, endpoint);
-            return integrate_clipped3(map, odds, stamps, clip, is_hit(termination));
-        }
+    match clip_beam3(map.extents, origin, endpoint) {
+        Tried3::NotFinite => CountAnswer::Refused(Refusal::Ray),
+        Tried3::Clip(clip) => integrate_clipped3(map, odds, stamps, clip, is_hit(termination)),
     }
-    CountAnswer::Refused(Refusal::Ray)
 }

@@ -33,7 +33,7 @@ pub enum Clip3 {
     Miss,
 }
 
-fn directions2(origin: Point2, endpoint: Point2) -> Vector2
+pub fn directions2(origin: Point2, endpoint: Point2) -> Vector2
     ensures { λ r. ⌜ vector2 r ≡ OneBeam.directions binary64 (point2 origin) (point2 endpoint) ⌝ }
 {
     let x = endpoint.x - origin.x;
@@ -54,7 +54,7 @@ fn slabs2(extents: Extents2, origin: Point2, direction: Vector2) -> Passage
     }
 }
 
-fn point_at2(origin: Point2, direction: Vector2, t: f64) -> Point2
+pub fn point_at2(origin: Point2, direction: Vector2, t: f64) -> Point2
     ensures { λ r. ⌜ point2 r ≡ OneBeam.pointAt binary64 t (point2 origin) (vector2 direction) ⌝ }
 {
     let at_x = point_on(origin.x, direction.x, t);
@@ -71,13 +71,20 @@ fn both_beyond2(extents: Extents2, entry: Point2, exit: Point2) -> bool
     beyond(extents.y, entry.y, exit.y)
 }
 
+pub fn all_within2(extents: Extents2, p: Point2) -> bool
+    ensures { λ r. ⌜ r ≡ OneBeam.allWithin binary64 (extents2 extents) (point2 p) ⌝ }
+{
+    if within(extents.x, p.x) {
+        return within(extents.y, p.y);
+    }
+    false
+}
+
 fn is_inside2(extents: Extents2, t: f64, exit: Point2) -> bool
     ensures { λ r. ⌜ r ≡ OneBeam.isInside binary64 (extents2 extents) t (point2 exit) ⌝ }
 {
     if t >= 1.0 {
-        if within(extents.x, exit.x) {
-            return within(extents.y, exit.y);
-        }
+        return all_within2(extents, exit);
     }
     false
 }
@@ -90,7 +97,7 @@ fn clamp_to_addressable_cell2(extents: Extents2, p: Point2) -> Point2
     Point2 { x, y }
 }
 
-fn clipped_at2(extents: Extents2, t: f64, entry: Point2, exit: Point2) -> Clip2
+pub fn clipped_at2(extents: Extents2, t: f64, entry: Point2, exit: Point2) -> Clip2
     ensures { λ r. ⌜ clip2 r ≡ OneBeam.clippedAt binary64 (extents2 extents) t (point2 entry) (point2 exit) ⌝ }
 {
     if both_beyond2(extents, entry, exit) {
@@ -118,7 +125,7 @@ pub fn clip_segment2(extents: Extents2, origin: Point2, endpoint: Point2) -> Cli
     }
 }
 
-fn directions3(origin: Point3, endpoint: Point3) -> Vector3
+pub fn directions3(origin: Point3, endpoint: Point3) -> Vector3
     ensures { λ r. ⌜ vector3 r ≡ OneBeam.directions binary64 (point3 origin) (point3 endpoint) ⌝ }
 {
     let x = endpoint.x - origin.x;
@@ -143,7 +150,7 @@ fn slabs3(extents: Extents3, origin: Point3, direction: Vector3) -> Passage
     }
 }
 
-fn point_at3(origin: Point3, direction: Vector3, t: f64) -> Point3
+pub fn point_at3(origin: Point3, direction: Vector3, t: f64) -> Point3
     ensures { λ r. ⌜ point3 r ≡ OneBeam.pointAt binary64 t (point3 origin) (vector3 direction) ⌝ }
 {
     let at_x = point_on(origin.x, direction.x, t);
@@ -168,15 +175,22 @@ fn both_beyond3(extents: Extents3, entry: Point3, exit: Point3) -> bool
     beyond(extents.z, entry.z, exit.z)
 }
 
+pub fn all_within3(extents: Extents3, p: Point3) -> bool
+    ensures { λ r. ⌜ r ≡ OneBeam.allWithin binary64 (extents3 extents) (point3 p) ⌝ }
+{
+    if within(extents.x, p.x) {
+        if within(extents.y, p.y) {
+            return within(extents.z, p.z);
+        }
+    }
+    false
+}
+
 fn is_inside3(extents: Extents3, t: f64, exit: Point3) -> bool
     ensures { λ r. ⌜ r ≡ OneBeam.isInside binary64 (extents3 extents) t (point3 exit) ⌝ }
 {
     if t >= 1.0 {
-        if within(extents.x, exit.x) {
-            if within(extents.y, exit.y) {
-                return within(extents.z, exit.z);
-            }
-        }
+        return all_within3(extents, exit);
     }
     false
 }
@@ -190,7 +204,7 @@ fn clamp_to_addressable_cell3(extents: Extents3, p: Point3) -> Point3
     Point3 { x, y, z }
 }
 
-fn clipped_at3(extents: Extents3, t: f64, entry: Point3, exit: Point3) -> Clip3
+pub fn clipped_at3(extents: Extents3, t: f64, entry: Point3, exit: Point3) -> Clip3
     ensures { λ r. ⌜ clip3 r ≡ OneBeam.clippedAt binary64 (extents3 extents) t (point3 entry) (point3 exit) ⌝ }
 {
     if both_beyond3(extents, entry, exit) {

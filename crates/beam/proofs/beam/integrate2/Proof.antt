@@ -1,22 +1,27 @@
 -- The points decide first; then what clipping left.
-use mathlib.Core.Path.{sym, _∙_}
+use mathlib.Core.Path.{sym, ap, _∙_}
+use mathlib.Core.Bool.{_&&_}
 use denote.Ref.{now}
+use lib.Ieee.{binary64}
 use borrow.Author.Needs.{needs}
 use Rattle.types.specs.Models.{modelOf}
-use Rattle.rules.specs.OneBeam.{integratedBeam, beamMarks}
+use Rattle.types.specs.Points.{extents2, point2}
+use Rattle.rules.specs.Floats.{allFinite}
+use Rattle.rules.specs.OneBeam.{clip, integratedBeam, beamMarks}
 use Rattle.types.specs.declared.refusal.Refusal.the-variants.{Ray}
-use Rattle.beam.proofs.Beaming.{not-integrated}
+use Rattle.clip.specs.Clips.{tried2}
+use Rattle.beam.proofs.Beaming.{not-integrated, not-finite, is-finite, clip-is}
 use Rattle.beam.proofs.beam.integrate2.Statement.{statement}
 use Rattle.beam.proofs.beam.integrate2.Tie as tie
 
-all-finite2-requires : tie.Need-all-finite2-requires
-all-finite2-requires c κs = search needs
+clip-beam2-requires : tie.Need-clip-beam2-requires
+clip-beam2-requires c κs = search needs
 
-all-finite2-requires-2 : tie.Need-all-finite2-requires-2
-all-finite2-requires-2 c κs = search needs
+enum-told : tie.Need-enum-told
+enum-told c = search needs
 
-clip-segment2-requires : tie.Need-clip-segment2-requires
-clip-segment2-requires c κs = search needs
+enum-known-clip : tie.Need-enum-known-clip
+enum-known-clip c = search needs
 
 is-hit-requires : tie.Need-is-hit-requires
 is-hit-requires c κs = search needs
@@ -24,35 +29,43 @@ is-hit-requires c κs = search needs
 integrate-clipped2-requires : tie.Need-integrate-clipped2-requires
 integrate-clipped2-requires c κs = search needs
 
+returns : tie.Need-returns
+unfolding integratedBeam beamMarks
+returns c =
+    let tried = sym (ap tried2 (c .enum-told .given .1)) ∙ c .before .before .clip-beam2 .ensures in
+    let a = c .before .before .before .before .before .before .before .args in
+    let origin = point2 (a .beam .origin) in
+    let endpoint = point2 (a .beam .endpoint) in
+    rw (not-finite (allFinite origin && allFinite endpoint) (clip binary64 (extents2 (a .map .extents)) origin endpoint) tried)
+    (not-integrated (modelOf (a .map .model)) (a .map .frame .0) (now (a .odds)) (now (a .stamps)) Ray)
+
 same-length : tie.Need-same-length
 same-length c = search needs
 
 same-length-2 : tie.Need-same-length-2
 same-length-2 c = search needs
 
-returns : tie.Need-returns
-unfolding integratedBeam beamMarks
-returns c = rw (sym (c .before .before .before .before .before .before .before .before .before .before .before .before .all-finite2 .ensures) ∙ c .before .before .before .before .before .before .before .before .before .before .before .if1 .taken, sym (c .before .before .before .before .before .before .before .before .before .before .all-finite22 .ensures) ∙ c .before .before .before .before .before .before .before .before .before .if2 .taken, ← c .before .before .before .before .before .before .before .before .clip-segment2 .ensures, ← c .before .before .before .before .before .is-hit .ensures) (c .before .before .before .before .integrate-clipped2 .ensures)
-
 returns-2 : tie.Need-returns-2
 unfolding integratedBeam beamMarks
-returns-2 c = rw (sym (c .before .before .before .all-finite2 .ensures) ∙ c .before .before .if1 .taken, sym (c .before .all-finite22 .ensures) ∙ c .if2 .left) (not-integrated (modelOf (c .before .before .before .before .before .before .before .before .args .map .model)) (c .before .before .before .before .before .before .before .before .args .map .frame .0) (now (c .before .before .before .before .before .before .before .before .args .odds)) (now (c .before .before .before .before .before .before .before .before .args .stamps)) Ray)
-
-returns-3 : tie.Need-returns-3
-unfolding integratedBeam beamMarks
-returns-3 c = rw (sym (c .before .all-finite2 .ensures) ∙ c .if1 .left) (not-integrated (modelOf (c .before .before .before .before .before .before .args .map .model)) (c .before .before .before .before .before .before .args .map .frame .0) (now (c .before .before .before .before .before .before .args .odds)) (now (c .before .before .before .before .before .before .args .stamps)) Ray)
+returns-2 c =
+    let tried = sym (ap tried2 (c .before .before .before .before .before .before .before .before .before .clip .given .1)) ∙ c .before .before .before .before .before .before .before .before .before .before .before .clip-beam2 .ensures in
+    let a = c .before .before .before .before .before .before .before .before .before .before .before .before .before .before .before .before .args in
+    let origin = point2 (a .beam .origin) in
+    let endpoint = point2 (a .beam .endpoint) in
+    let finite = allFinite origin && allFinite endpoint in
+    let whole = clip binary64 (extents2 (a .map .extents)) origin endpoint in
+    rw (is-finite finite whole _ tried, ← clip-is finite whole _ tried, ← c .before .before .before .before .before .is-hit .ensures) (c .before .before .before .before .integrate-clipped2 .ensures)
 
 pub integrate2-spec : {M : Type 1} → statement M
 integrate2-spec =
     tie.close
     (tie.spec
-    all-finite2-requires
-    all-finite2-requires-2
-    clip-segment2-requires
+    clip-beam2-requires
+    enum-told
+    enum-known-clip
     is-hit-requires
     integrate-clipped2-requires
+    returns
     same-length
     same-length-2
-    returns
-    returns-2
-    returns-3)
+    returns-2)

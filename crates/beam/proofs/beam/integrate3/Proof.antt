@@ -1,22 +1,27 @@
 -- The points decide first; then what clipping left.
-use mathlib.Core.Path.{sym, _∙_}
+use mathlib.Core.Path.{sym, ap, _∙_}
+use mathlib.Core.Bool.{_&&_}
 use denote.Ref.{now}
+use lib.Ieee.{binary64}
 use borrow.Author.Needs.{needs}
 use Rattle.types.specs.Models.{modelOf}
-use Rattle.rules.specs.OneBeam.{integratedBeam, beamMarks}
+use Rattle.types.specs.Points.{extents3, point3}
+use Rattle.rules.specs.Floats.{allFinite}
+use Rattle.rules.specs.OneBeam.{clip, integratedBeam, beamMarks}
 use Rattle.types.specs.declared.refusal.Refusal.the-variants.{Ray}
-use Rattle.beam.proofs.Beaming.{not-integrated}
+use Rattle.clip.specs.Clips.{tried3}
+use Rattle.beam.proofs.Beaming.{not-integrated, not-finite, is-finite, clip-is}
 use Rattle.beam.proofs.beam.integrate3.Statement.{statement}
 use Rattle.beam.proofs.beam.integrate3.Tie as tie
 
-all-finite3-requires : tie.Need-all-finite3-requires
-all-finite3-requires c κs = search needs
+clip-beam3-requires : tie.Need-clip-beam3-requires
+clip-beam3-requires c κs = search needs
 
-all-finite3-requires-2 : tie.Need-all-finite3-requires-2
-all-finite3-requires-2 c κs = search needs
+enum-told : tie.Need-enum-told
+enum-told c = search needs
 
-clip-segment3-requires : tie.Need-clip-segment3-requires
-clip-segment3-requires c κs = search needs
+enum-known-clip : tie.Need-enum-known-clip
+enum-known-clip c = search needs
 
 is-hit-requires : tie.Need-is-hit-requires
 is-hit-requires c κs = search needs
@@ -24,35 +29,43 @@ is-hit-requires c κs = search needs
 integrate-clipped3-requires : tie.Need-integrate-clipped3-requires
 integrate-clipped3-requires c κs = search needs
 
+returns : tie.Need-returns
+unfolding integratedBeam beamMarks
+returns c =
+    let tried = sym (ap tried3 (c .enum-told .given .1)) ∙ c .before .before .clip-beam3 .ensures in
+    let a = c .before .before .before .before .before .before .before .args in
+    let origin = point3 (a .beam .origin) in
+    let endpoint = point3 (a .beam .endpoint) in
+    rw (not-finite (allFinite origin && allFinite endpoint) (clip binary64 (extents3 (a .map .extents)) origin endpoint) tried)
+    (not-integrated (modelOf (a .map .model)) (a .map .frame .0) (now (a .odds)) (now (a .stamps)) Ray)
+
 same-length : tie.Need-same-length
 same-length c = search needs
 
 same-length-2 : tie.Need-same-length-2
 same-length-2 c = search needs
 
-returns : tie.Need-returns
-unfolding integratedBeam beamMarks
-returns c = rw (sym (c .before .before .before .before .before .before .before .before .before .before .before .before .all-finite3 .ensures) ∙ c .before .before .before .before .before .before .before .before .before .before .before .if1 .taken, sym (c .before .before .before .before .before .before .before .before .before .before .all-finite32 .ensures) ∙ c .before .before .before .before .before .before .before .before .before .if2 .taken, ← c .before .before .before .before .before .before .before .before .clip-segment3 .ensures, ← c .before .before .before .before .before .is-hit .ensures) (c .before .before .before .before .integrate-clipped3 .ensures)
-
 returns-2 : tie.Need-returns-2
 unfolding integratedBeam beamMarks
-returns-2 c = rw (sym (c .before .before .before .all-finite3 .ensures) ∙ c .before .before .if1 .taken, sym (c .before .all-finite32 .ensures) ∙ c .if2 .left) (not-integrated (modelOf (c .before .before .before .before .before .before .before .before .args .map .model)) (c .before .before .before .before .before .before .before .before .args .map .frame .0) (now (c .before .before .before .before .before .before .before .before .args .odds)) (now (c .before .before .before .before .before .before .before .before .args .stamps)) Ray)
-
-returns-3 : tie.Need-returns-3
-unfolding integratedBeam beamMarks
-returns-3 c = rw (sym (c .before .all-finite3 .ensures) ∙ c .if1 .left) (not-integrated (modelOf (c .before .before .before .before .before .before .args .map .model)) (c .before .before .before .before .before .before .args .map .frame .0) (now (c .before .before .before .before .before .before .args .odds)) (now (c .before .before .before .before .before .before .args .stamps)) Ray)
+returns-2 c =
+    let tried = sym (ap tried3 (c .before .before .before .before .before .before .before .before .before .clip .given .1)) ∙ c .before .before .before .before .before .before .before .before .before .before .before .clip-beam3 .ensures in
+    let a = c .before .before .before .before .before .before .before .before .before .before .before .before .before .before .before .before .args in
+    let origin = point3 (a .beam .origin) in
+    let endpoint = point3 (a .beam .endpoint) in
+    let finite = allFinite origin && allFinite endpoint in
+    let whole = clip binary64 (extents3 (a .map .extents)) origin endpoint in
+    rw (is-finite finite whole _ tried, ← clip-is finite whole _ tried, ← c .before .before .before .before .before .is-hit .ensures) (c .before .before .before .before .integrate-clipped3 .ensures)
 
 pub integrate3-spec : {M : Type 1} → statement M
 integrate3-spec =
     tie.close
     (tie.spec
-    all-finite3-requires
-    all-finite3-requires-2
-    clip-segment3-requires
+    clip-beam3-requires
+    enum-told
+    enum-known-clip
     is-hit-requires
     integrate-clipped3-requires
+    returns
     same-length
     same-length-2
-    returns
-    returns-2
-    returns-3)
+    returns-2)

@@ -3,8 +3,8 @@ use mathlib.Core.Path.{sym, _∙_}
 use mathlib.Core.Bool.{and-true}
 use borrow.Author.Needs.{needs}
 use Rattle.rules.specs.Floats.{allFinite}
-use Rattle.beam.proofs.beam.all_finite3.Statement.{statement}
-use Rattle.beam.proofs.beam.all_finite3.Tie as tie
+use Rattle.clip.proofs.tried.all_finite3.Statement.{statement}
+use Rattle.clip.proofs.tried.all_finite3.Tie as tie
 
 is-finite-requires : tie.Need-is-finite-requires
 is-finite-requires c κs = search needs

@@ -1,0 +1,70 @@
+-- Both ends on the map: finite, and uncut. Else by the tests, and then the slabs.
+use mathlib.Core.Path.{sym, ap, _∙_, subst}
+use mathlib.Core.Bool.{and-true}
+use mathlib.Core.Option.{some}
+use native.Mathlib.Omega.{arith}
+use lib.Dec.{T}
+use lib.Ieee.{binary64}
+use borrow.Author.Needs.{needs}
+use Rattle.laws.specs.OnTheMap.Coordinate.{all-finite}
+use Rattle.types.specs.Points.{extents3, point3}
+use Rattle.clip.proofs.tried.clip_beam3.Statement.{statement}
+use Rattle.clip.proofs.tried.clip_beam3.Tie as tie
+
+all-within3-requires : tie.Need-all-within3-requires
+all-within3-requires c κs = search needs
+
+all-within3-requires-2 : tie.Need-all-within3-requires-2
+all-within3-requires-2 c κs = search needs
+
+uncut3-requires : tie.Need-uncut3-requires
+uncut3-requires c κs =
+    (c .before .before .before .before .pre, (sym (c .before .before .before .all-within3 .ensures) ∙ c .before .before .if1 .taken, sym (c .before .all-within32 .ensures) ∙ c .if2 .taken))
+
+returns : tie.Need-returns
+returns c =
+    let a = c .before .before .before .before .before in
+    let starts = subst T (sym (sym (c .before .before .before .before .all-within3 .ensures) ∙ c .before .before .before .if1 .taken)) tt in
+    let ends = subst T (sym (sym (c .before .before .all-within32 .ensures) ∙ c .before .if2 .taken)) tt in
+    rw (
+      all-finite binary64 (extents3 (a .args .extents)) (point3 (a .args .origin)) (a .pre) (omega arith) starts,
+      all-finite binary64 (extents3 (a .args .extents)) (point3 (a .args .endpoint)) (a .pre) (omega arith) ends,
+    )
+    (ap some (c .uncut3 .ensures))
+
+all-finite3-requires : tie.Need-all-finite3-requires
+all-finite3-requires c κs = search needs
+
+all-finite3-requires-2 : tie.Need-all-finite3-requires-2
+all-finite3-requires-2 c κs = search needs
+
+clip-segment3-requires : tie.Need-clip-segment3-requires
+clip-segment3-requires c κs = search needs
+
+returns-2 : tie.Need-returns-2
+returns-2 c =
+    rw (sym (c .before .before .before .before .all-finite3 .ensures) ∙ c .before .before .before .if3 .taken, sym (c .before .before .all-finite32 .ensures) ∙ c .before .if4 .taken)
+    (ap some (c .clip-segment3 .ensures))
+
+returns-3 : tie.Need-returns-3
+returns-3 c =
+    simp (sym (c .before .before .before .all-finite3 .ensures) ∙ c .before .before .if3 .taken, sym (c .before .all-finite32 .ensures) ∙ c .if4 .left)
+
+returns-4 : tie.Need-returns-4
+returns-4 c =
+    simp (sym (c .before .all-finite3 .ensures) ∙ c .if3 .left)
+
+pub clip-beam3-spec : {M : Type 1} → statement M
+clip-beam3-spec =
+    tie.close
+    (tie.spec
+    all-within3-requires
+    all-within3-requires-2
+    uncut3-requires
+    returns
+    all-finite3-requires
+    all-finite3-requires-2
+    clip-segment3-requires
+    returns-2
+    returns-3
+    returns-4)
