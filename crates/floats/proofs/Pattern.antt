@@ -41,6 +41,13 @@ plus x h = lt-leb (2 ^ 63) (bitsOf x) (omega arith)
 pub minus : (x : Float) → (bitsOf x / 2 ^ 63 ≡ 0 → ⊥) → signOf x ≡ true
 minus x h = le-leb (2 ^ 63) (bitsOf x) (omega arith)
 
+-- bits below 4096.0's: no sign, and an exponent below that of 4096
+pub below-4096 : (x : Float) → bitsOf x < 0x40b0_0000_0000_0000 → signOf x ≡ false
+below-4096 x h = lt-leb (2 ^ 63) (bitsOf x) (omega arith)
+
+pub exponent-below : (x : Float) → bitsOf x < 0x40b0_0000_0000_0000 → exponentOf x < 1035
+exponent-below x h = omega (arith, and-mask (bitsOf x / 2 ^ 52) 11)
+
 by-fields : (x : Float) → fits binary64 x ≡ true → x ≡ ofFields binary64 (signOf x) (exponentOf x) (fractionOf x)
 unfolding ofBits
 by-fields x h =

@@ -106,20 +106,21 @@ pub const NOT_FOLLOWED: u64 = 18446744073709551615;
 // The cell that a coordinate can be followed from: the one that it lies in, where rounding cannot carry it across a face as it goes on by whole steps,
 // else `NOT_FOLLOWED`. It is a hint: the contract says that a cell answered is right, and allows `NOT_FOLLOWED` of any coordinate. The code answers a cell
 // for all coordinates from +0.0 to below 4096 that lie at least 2^-20 below their cell's upper face. -0.0 has the sign of a number below zero, and is not followed.
+// As numbers, the 64 bits of such coordinates are those below 4096.0's; all others, signs and infinities too, are above.
 pub fn followed_cell(x: f64) -> u64
     ensures { λ r. ⌜ Followed r x ⌝ }
 {
     if x != x {
         return NOT_FOLLOWED;
     }
-    if f64::to_bits(x) >> 63 != 0 {
+    let bits: u64 = f64::to_bits(x);
+    let exponent: u64 = (bits >> 52) & 0x7ff;
+    let fraction: u64 = bits & 0xf_ffff_ffff_ffff;
+    if bits >= 0x40b0_0000_0000_0000 {
         return NOT_FOLLOWED;
     }
-    let cell = count_of(x);
-    if cell >= 4096 {
-        return NOT_FOLLOWED;
-    }
-    let highest = std::num::nearest_u64_to_f64(cell) + (1.0 - 1.0 / 1048576.0);
+    let cell = whole_part(exponent, fraction);
+    let highest = ((cell as u32) as f64) + (1.0 - 1.0 / 1048576.0);
     if x <= highest {
         return cell;
     }
