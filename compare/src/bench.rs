@@ -3,7 +3,7 @@
 
 use std::hint::black_box;
 
-use oracle::bench::{PreparedBeam, PreparedPoint};
+use oracle::bench::{PreparedBeam, PreparedPoint, RawSample};
 use oracle::rust::{Beam, MapState, RustMap};
 
 use crate::face::{Face, Tembuzar};
@@ -80,6 +80,29 @@ impl<const N: usize> Bench<N> {
             let at = self.original.sample_prepared(black_box(point));
             seen ^ at.map_or(1, |at| all_bits(at.value(), std::array::from_fn::<_, N, _>(|axis| at.gradient(axis))))
         })
+    }
+
+    /// A sample behind a call, as every function of a C library is; otherwise the compiler puts it into its caller.
+    #[inline(never)]
+    fn original_sample_called(&self, point: &PreparedPoint<f64, N>) -> Option<RawSample<f64, N>> {
+        self.original.sample_prepared(point)
+    }
+
+    pub fn original_samples_called(&mut self) -> u64 {
+        self.prepared_points.iter().fold(0, |seen, point| {
+            let at = self.original_sample_called(black_box(point));
+            seen ^ at.map_or(1, |at| all_bits(at.value(), std::array::from_fn::<_, N, _>(|axis| at.gradient(axis))))
+        })
+    }
+
+    /// An opening behind a call.
+    #[inline(never)]
+    fn original_open_called(&mut self) -> u64 {
+        self.original_open()
+    }
+
+    pub fn original_opens_called(&mut self) -> u64 {
+        (0..1000).map(|_| black_box(&mut *self).original_open_called()).fold(0, u64::wrapping_add)
     }
 
     pub fn original_open(&mut self) -> u64 {

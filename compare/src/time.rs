@@ -142,6 +142,12 @@ fn looks(run: &Run) {
     let mut bench = Bench::new([256, 256], 1, &circle(&mut rng, 360), &points);
     bench.swept();
     run.case("1,000 samples, 256 x 256", &mut bench, Bench::original_samples, Bench::our_samples);
+    run.case(
+        "1,000 samples, the original behind a call",
+        &mut bench,
+        Bench::original_samples_called,
+        Bench::our_samples,
+    );
     let points: Vec<[f64; 3]> = (0..1000).map(|_| [(); 3].map(|_| rng.between(0.0, 63.0))).collect();
     let mut bench = Bench::new([128, 128, 64], 1, &dome(&mut rng, 10_000), &points);
     bench.swept();
@@ -152,6 +158,12 @@ fn heads(run: &Run) {
     let highest = oracle::rust::HIGHEST_FRAME;
     let mut low = Bench::new([256, 256], 1, &[], &[]);
     run.case("opening 1,000 sweeps, 256 x 256", &mut low, Bench::original_opens, Bench::our_opens);
+    run.case(
+        "opening 1,000 sweeps, the original behind a call",
+        &mut low,
+        Bench::original_opens_called,
+        Bench::our_opens,
+    );
     run.case("opening 1,000 sweeps, head by value", &mut low, Bench::original_opens, Bench::our_opens_by_value);
     run.case("reset, 256 x 256", &mut low, Bench::original_reset, Bench::our_reset);
     let mut last = Bench::new([256, 256], highest, &[], &[]);
