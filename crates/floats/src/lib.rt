@@ -80,12 +80,12 @@ pub fn chosen(first: bool, a: f64, b: f64) -> f64
     if first { a } else { b }
 }
 
-// A number as a float, to the nearest. A number of 32 bits, as every cell's is, takes the machine's own conversion.
+// A number as a float, to the nearest. A number up to 2^53, as every cell's is, is exact and takes the machine's own conversion, which is that of signed numbers.
 pub fn number_of(n: u64) -> f64
     ensures { λ r. ⌜ r ≡ numberF binary64 n ⌝ }
 {
-    if n < 4294967296 {
-        return (n as u32) as f64;
+    if n < 9007199254740992 {
+        return (n as i64) as f64;
     }
     std::num::nearest_u64_to_f64(n)
 }
