@@ -9,7 +9,7 @@ use lib.IntN.{ℤ}
 use lib.Dec.{T, leb, eqb}
 use lib.Bits.{bitAnd, and-mask, mask-lt}
 use lib.Pow.{pow-pos, pow-mono, shl-lt, field}
-use lib.Ieee.{Float, nan, inf, fin, binary64, up, down, odd, ofFields, ofBits, toBits, fits, isNan, ne}
+use lib.Ieee.{Float, nan, inf, fin, binary64, up, down, odd, ofFields, ofBits, toBits, fits, isNan, eq, ne}
 use lib.Ieee.Bits.{ofBits-toBits}
 use lib.Ieee.Compare.{nan-differs}
 use lib.Ieee.Exact.{HasValue, odd-sign}
@@ -48,12 +48,23 @@ below-4096 x h = lt-leb (2 ^ 63) (bitsOf x) (omega arith)
 pub exponent-below : (x : Float) → bitsOf x < 0x40b0_0000_0000_0000 → exponentOf x < 1035
 exponent-below x h = omega (arith, and-mask (bitsOf x / 2 ^ 52) 11)
 
+-- the twelve bits above the fraction, where they are below 1035: there is no sign among them
+pub low-sign : (x : Float) → bitsOf x / 2 ^ 52 < 1035 → signOf x ≡ false
+low-sign x h = below-4096 x (omega arith)
+
+pub low-exponent : (x : Float) → bitsOf x / 2 ^ 52 < 1035 → bitsOf x / 2 ^ 52 ≡ exponentOf x
+low-exponent x h = omega (arith, and-mask (bitsOf x / 2 ^ 52) 11)
+
 by-fields : (x : Float) → fits binary64 x ≡ true → x ≡ ofFields binary64 (signOf x) (exponentOf x) (fractionOf x)
 unfolding ofBits
 by-fields x h =
     let b = bitsOf x in
     sym (ofBits-toBits binary64 x (subst T (sym h) tt))
     ∙ ap₂ (λ (e t : ℕ). ofFields binary64 (signOf x) e t) (sym (and-mask (b / 2 ^ 52) 11 ∙ sym (field b 11 52))) (sym (and-mask b 52))
+
+pub equals-itself : (x : Float) → eq x x ≡ true → ne x x ≡ false
+unfolding ne
+equals-itself x e = ap not e
 
 pub no-nan : (x : Float) → ne x x ≡ false → T (not (isNan x))
 unfolding isNan

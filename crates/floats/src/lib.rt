@@ -28,8 +28,23 @@ fn whole_part(exponent: u64, fraction: u64) -> u64
     digits >> places
 }
 
-// A coordinate's cell.
+// A coordinate's cell. Nearly all coordinates have no sign and lie below 4096. Sign and exponent, the twelve bits above the fraction, are then below 1035, and the cell
+// is settled from them, before there is any case for a NaN or a large value. The test before it is what reading the bits asks for: a NaN's are not fixed.
 pub fn cell_of(x: f64) -> i64
+    ensures { λ r. ⌜ r ≡ truncated x ⌝ }
+{
+    if x == x {
+        let bits: u64 = f64::to_bits(x);
+        let exponent: u64 = bits >> 52;
+        if exponent < 1035 {
+            return whole_part(exponent, bits & 0xf_ffff_ffff_ffff) as i64;
+        }
+    }
+    any_cell_of(x)
+}
+
+// The cell of any float, case by case.
+fn any_cell_of(x: f64) -> i64
     ensures { λ r. ⌜ r ≡ truncated x ⌝ }
 {
     if x != x {
