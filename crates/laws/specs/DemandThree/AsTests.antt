@@ -41,7 +41,7 @@ abbrev pub allPass : List Bool → Bool
 allPass [] = true
 allPass (b ∷ bs) = b && allPass bs
 
-every-at : {A : Type 0} (test : A → Bool) (d : A) (xs : List A) → T (every test xs) → (i : ℕ) → i < length xs → T (test (getD xs i d))
+pub every-at : {A : Type 0} (test : A → Bool) (d : A) (xs : List A) → T (every test xs) → (i : ℕ) → i < length xs → T (test (getD xs i d))
 every-at test d [] t i l = absurd (not-suc-le-zero l)
 every-at test d (x ∷ xs) t zero l = and-l (test x) (every test xs) t
 every-at test d (x ∷ xs) t (suc i) l = every-at test d xs (and-r (test x) (every test xs) t) i (le-of-suc-le-suc l)

@@ -2,7 +2,7 @@
 -- Assumes nothing.
 use mathlib.Core.Path.{_≡_, refl, ap, _∙_, subst}
 use mathlib.Core.Logic.{_⊎_, inl, inr}
-use Prim.Native.Nat.{ℕ, _+_, _^_, _≤_, _<_}
+use Prim.Native.Nat.{ℕ, _+_, _*_, _^_, _≤_, _<_}
 use native.Mathlib.Nat.{zero-mul}
 use native.Mathlib.Omega.{arith}
 use mathlib.Core.Bool.{Bool, true, false, _&&_, cond}
@@ -117,7 +117,7 @@ signs m t =
     first-three (lt zeroF (m .occupied)) (lt (m .free) zeroF) (lt zeroF (m .ceiling)) (finite (m .occupied)) (finite (m .free)) (finite (m .ceiling))
     (le (m .occupied) mostSize) (le (neg mostSize) (m .free)) (le (m .ceiling) mostSize) t
 
-of-units : (f : Format) (x : Float) → T (ofUnits f x) → T (fits f x) × T (multiple f x)
+pub of-units : (f : Format) (x : Float) → T (ofUnits f x) → T (fits f x) × T (multiple f x)
 unfolding ofUnits
 of-units f x t = (and-l (fits f x) (multiple f x) t, and-r (fits f x) (multiple f x) t)
 
@@ -148,7 +148,7 @@ step-units f m i b t =
 
 -- ---- the cell
 module _ (f : Format) (s : Steps) (O F C : ℕ) (u : StepUnits f s O F C) (o : Float) (p : T (fits f o)) (w : T (multiple f o)) where
-  above : T (le (s .floor) o) → less f o ≤ plus f o + C
+  pub above : T (le (s .floor) o) → less f o ≤ plus f o + C
   above h =
       let v = u .floor in
       omega (arith, le-right f o (s .floor) w (v .sign) (v .count) 0 C (units-val f (s .floor) 0 C v) (v .apart) h)
@@ -180,13 +180,16 @@ module _ (f : Format) (s : Steps) (O F C : ℕ) (u : StepUnits f s O F C) (o : F
       go (inl e) = omega arith
       go (inr e) = omega arith
 
+  pub in-units : T (le (s .floor) o) → T (le o (s .ceiling)) → Units f o (plus f o) (less f o)
+  in-units a b = multiple-units f o p w (omega (arith, small (above a) (below b), u .ceiling-most, most-fits f))
+
+  pub near-zero : T (le (s .floor) o) → T (le o (s .ceiling)) → (plus f o ≤ less f o + 4 * most f) × (less f o ≤ plus f o + 4 * most f)
+  near-zero a b = (omega (arith, below b, u .ceiling-most), omega (arith, above a, u .ceiling-most))
+
   settles : T (le (s .floor) o) → T (le o (s .ceiling)) → T (le o (s .floor)) ⊎ T (lt (sub f (s .floor) (s .free)) o) → takenBack f s (freed f s o) ≡ alone f s o
   settles a b h =
-      let x = above a in
-      let y = below b in
-      let z = small x y in
-      let v : Units f o (plus f o) (less f o) = multiple-units f o p w (omega (arith, u .ceiling-most, most-fits f)) in
-      take-back f s O F C u o (plus f o) (less f o) v (omega (arith, u .ceiling-most)) (omega (arith, u .ceiling-most)) (go h x)
+      let near = near-zero a b in
+      take-back f s O F C u o (plus f o) (less f o) (in-units a b) (near .0) (near .1) (go h (above a))
     where
       go : T (le o (s .floor)) ⊎ T (lt (sub f (s .floor) (s .free)) o) → less f o ≤ plus f o + C → (plus f o + C ≡ less f o) ⊎ (less f o + F < plus f o + C)
       go (inl k) x = inl (omega (arith, on-floor k))

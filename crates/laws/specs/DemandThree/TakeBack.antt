@@ -78,7 +78,7 @@ module _ (f : Format) (s : Steps) (O F C : ℕ) (u : StepUnits f s O F C) where
       let M = most-fits f in
       limited-is (add f o (dif f c d)) (a + c) (b + d) (add-dif f o a b c d w (omega arith) (omega arith)) (omega arith) (omega arith)
 
-  free-is : s .free ≡ dif f 0 F
+  pub free-is : s .free ≡ dif f 0 F
   free-is = units-dif f (s .free) 0 F (u .free) (inl (u .free-pos))
 
   occupied-is : s .occupied ≡ dif f O 0
@@ -93,7 +93,7 @@ module _ (f : Format) (s : Steps) (O F C : ℕ) (u : StepUnits f s O F C) where
       ∙ add-dif f (s .occupied) O 0 F 0 (u .occupied) (omega (arith, u .free-most)) (omega (arith, u .free-most))
 
   module _ (o : Float) (a b : ℕ) (w : Units f o a b) (near : a ≤ b + 4 * most f) (near' : b ≤ a + 4 * most f) where
-    freed-is : freed f s o ≡ dif f (max (b + F) (min (a + 0 + C) (b + F + C + C))) (b + F + C)
+    pub freed-is : freed f s o ≡ dif f (max (b + F) (min (a + 0 + C) (b + F + C + C))) (b + F + C)
     unfolding freed
     freed-is = ap (λ (y : Float). limited s (add f o y)) free-is ∙ shifted o a b 0 F w (omega arith) (u .free-most) near near'
 
@@ -101,10 +101,10 @@ module _ (f : Format) (s : Steps) (O F C : ℕ) (u : StepUnits f s O F C) where
     unfolding occupy
     stepped c d e h = ap (λ (y : Float). limited s (add f o y)) e ∙ shifted o a b c 0 w h (omega arith) near near'
 
-    alone-is : alone f s o ≡ dif f (max (b + 0) (min (a + O + C) (b + 0 + C + C))) (b + 0 + C)
+    pub alone-is : alone f s o ≡ dif f (max (b + 0) (min (a + O + C) (b + 0 + C + C))) (b + 0 + C)
     alone-is = stepped O (s .occupied) occupied-is (omega (arith, u .occupied-most))
 
-    back-low : a + C ≤ b → takenBack f s o ≡ dif f (max (b + 0) (min (a + O + C) (b + 0 + C + C))) (b + 0 + C)
+    pub back-low : a + C ≤ b → takenBack f s o ≡ dif f (max (b + 0) (min (a + O + C) (b + 0 + C + C))) (b + 0 + C)
     back-low h =
         ap (λ (t : Bool). occupy f s o (cond t (s .occupied) (sub f (s .occupied) (s .free))))
         (le-units f o (s .floor) a b 0 C w (u .floor) ∙ le-leb (a + C) (0 + b) (omega arith))
