@@ -1,6 +1,6 @@
 -- A walk along a line: what holds between its steps, over lines of any number of axes. Whatever the rest of the line does to the lists as
 -- they stand, the whole line does to the lists as they were. Assumes nothing.
-use Prim.Native.Nat.{ℕ, _+_, _-_, _<_, _≤_}
+use Prim.Native.Nat.{ℕ, _+_, _-_, _<_}
 use mathlib.Core.Bool.{Bool, false, cond}
 use mathlib.Core.List.{List, []}
 use mathlib.Core.Path.{_≡_, refl, sym, ap, _∙_}
@@ -21,7 +21,6 @@ use Rattle.laws.specs.Checks.{Ready}
 use Rattle.laws.specs.Following.{drawn-after}
 use Rattle.laws.specs.LineSteps.{lineAfter, lineEnded, goes-on, ends-here, marks-step, done, no-cells}
 use Rattle.laws.specs.MarkLists.{marked-odds, marked-stamps}
-use Rattle.laws.specs.Room.{room}
 use Rattle.marks.specs.Marking.{gridOf}
 use Rattle.beam.specs.Applying.{Applied, one}
 use Rattle.beam.specs.Walking.{Walked, Begun}

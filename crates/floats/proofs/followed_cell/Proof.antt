@@ -1,5 +1,5 @@
 -- A cell that is answered passed all three tests; `NOT_FOLLOWED` is no cell's number.
-use mathlib.Core.Path.{_≡_, sym, _∙_, subst}
+use mathlib.Core.Path.{sym, _∙_, subst}
 use mathlib.Core.Bool.{false}
 use native.Mathlib.Omega.{arith}
 use lib.Dec.{T}

@@ -1,9 +1,9 @@
 -- Both ways are the number to the nearest float; below 2 ^ 53 it is one.
 use Prim.Native.Nat.{ℕ, _^_, _<_}
-use mathlib.Core.Path.{_≡_, sym, ap, subst}
+use mathlib.Core.Path.{sym, ap, subst}
 use native.Mathlib.Omega.{arith}
 use borrow.Author.Needs.{needs}
-use lib.IntN.{ℤ, pos}
+use lib.IntN.{ℤ}
 use lib.Dec.{T, le→leb}
 use lib.Ieee.{binary64, inFloat, ofInt}
 use mir.Syntax.{w64}

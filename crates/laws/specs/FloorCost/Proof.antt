@@ -1,5 +1,5 @@
 -- What the floor costs, proved of the rules: in every format, on any number of axes, for every list of beams. Assumes nothing.
-use mathlib.Core.Path.{_≡_, refl, sym, ap, ap₂, _∙_, subst}
+use mathlib.Core.Path.{_≡_, refl, sym, ap, _∙_, subst}
 use mathlib.Core.Logic.{_⊎_, inl, inr}
 use mathlib.Core.List.{List}
 use mathlib.Core.Bool.{false}
@@ -7,7 +7,7 @@ use Prim.Native.Nat.{ℕ, _+_, _*_, _≤_, _<_, min, max}
 use native.Mathlib.Omega.{arith}
 use lib.Dec.{T, le→leb}
 use lib.ListN.{length, getD}
-use lib.Ieee.{Float, nan, Format, prec, add, le}
+use lib.Ieee.{Float, nan, Format, add, le}
 use lib.Ieee.Fits.{and-l, and-r}
 use Rattle.rules.specs.TheGridAndItsBounds.{Model, Head, Grid, cells, bounded, floor}
 use Rattle.rules.specs.MarksAndFrames.{Steps, stepsAt, stampOf, freed, occupy}
