@@ -69,6 +69,10 @@ static void two_axes(void)
     r = tembuzar_set_log_odds2(m.map, odds, CELLS, (tembuzar_cell2){3, -7}, 9.5);
     printf("set_log_odds number %u, values %u, axis %lu, index %ld, extent %lu [5, 3, 1, -7, 4]\n",
            r.number, r.values, r.axis, r.index, r.extent);
+    r = tembuzar_set_log_odds_checked2(m.map, odds, CELLS, (tembuzar_cell2){3, 1}, NAN);
+    printf("set_checked  number %u, values %u, odds %g [13, 0, 4]\n", r.number, r.values, odds[8]);
+    r = tembuzar_set_log_odds_checked2(m.map, odds, CELLS, (tembuzar_cell2){3, 1}, INFINITY);
+    printf("set_checked  number %u, odds %g [0, 4]\n", r.number, odds[8]);
     tembuzar_odds_answer o = tembuzar_log_odds_at2(m.map, odds, CELLS, (tembuzar_cell2){3, 1});
     printf("log_odds_at  number %u, found %d, odds %g [0, 1, 4]\n", o.refusal.number, o.found, o.odds);
     tembuzar_sample_answer2 s = tembuzar_sample_log_odds2(m.map, odds, CELLS, (tembuzar_point2){3.5, 0.75});
@@ -167,6 +171,10 @@ static void three_axes(void)
     r = tembuzar_set_log_odds3(m.map, odds, CELLS, (tembuzar_cell3){3, 1, -7}, 9.5);
     printf("set_log_odds number %u, values %u, axis %lu, index %ld, extent %lu [5, 3, 2, -7, 3]\n",
            r.number, r.values, r.axis, r.index, r.extent);
+    r = tembuzar_set_log_odds_checked3(m.map, odds, CELLS, (tembuzar_cell3){3, 1, 2}, NAN);
+    printf("set_checked  number %u, values %u, odds %g [13, 0, 4]\n", r.number, r.values, odds[48]);
+    r = tembuzar_set_log_odds_checked3(m.map, odds, CELLS, (tembuzar_cell3){3, 1, 2}, INFINITY);
+    printf("set_checked  number %u, odds %g [0, 4]\n", r.number, odds[48]);
     tembuzar_odds_answer o = tembuzar_log_odds_at3(m.map, odds, CELLS, (tembuzar_cell3){3, 1, 2});
     printf("log_odds_at  number %u, found %d, odds %g [0, 1, 4]\n", o.refusal.number, o.found, o.odds);
     tembuzar_sample_answer3 s = tembuzar_sample_log_odds3(m.map, odds, CELLS, (tembuzar_point3){3.5, 0.75, 2.0});

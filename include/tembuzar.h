@@ -74,12 +74,13 @@ enum tembuzar_number {
     TEMBUZAR_BEAMS = 8,                 /* the flat list is no list of beams */
     TEMBUZAR_FRAME = 9,                 /* the head's frame is 0 or above TEMBUZAR_HIGHEST_FRAME */
     TEMBUZAR_RECORD = 10,               /* a map record is broken. Gives bytes: the offset of the field */
-    TEMBUZAR_ROOM = 11                  /* the output is shorter than the record. Gives bytes: how many it needs */
+    TEMBUZAR_ROOM = 11,                 /* the output is shorter than the record. Gives bytes: how many it needs */
+    TEMBUZAR_ODDS = 13                  /* the odds are not a number */
 };
 
 /* Why a call was refused. A value that the number does not give is 0. */
 typedef struct tembuzar_refusal {
-    uint32_t number; /* 0: the call was answered. 1 to 11: enum tembuzar_number */
+    uint32_t number; /* 0: the call was answered. else one of enum tembuzar_number */
     uint32_t values; /* how many values the refusal gives, 0 to 3 */
     uint64_t axis;   /* 1, 5, 6: 0 for x, 1 for y, 2 for z */
     int64_t index;   /* 5: the cell's index on that axis; of a point, its coordinate cut to a whole number */
@@ -333,6 +334,10 @@ tembuzar_mark_answer tembuzar_mark_occupied2(tembuzar_map2 map,
 tembuzar_refusal tembuzar_set_log_odds2(tembuzar_map2 map, double *odds, size_t odds_count,
                                         tembuzar_cell2 cell, double value);
 
+/* The same for a number: NaN is refused, and the cell keeps its odds. Refuses with 1, 2, 3, 4, 5, 13. */
+tembuzar_refusal tembuzar_set_log_odds_checked2(tembuzar_map2 map, double *odds, size_t odds_count,
+                                                tembuzar_cell2 cell, double value);
+
 /* One cell's odds. Refuses with 1, 2, 4. */
 tembuzar_odds_answer tembuzar_log_odds_at2(tembuzar_map2 map, const double *odds, size_t odds_count,
                                            tembuzar_cell2 cell);
@@ -386,6 +391,9 @@ tembuzar_mark_answer tembuzar_mark_occupied3(tembuzar_map3 map,
 tembuzar_refusal tembuzar_set_log_odds3(tembuzar_map3 map, double *odds, size_t odds_count,
                                         tembuzar_cell3 cell, double value);
 
+tembuzar_refusal tembuzar_set_log_odds_checked3(tembuzar_map3 map, double *odds, size_t odds_count,
+                                                tembuzar_cell3 cell, double value);
+
 tembuzar_odds_answer tembuzar_log_odds_at3(tembuzar_map3 map, const double *odds, size_t odds_count,
                                            tembuzar_cell3 cell);
 
@@ -422,7 +430,7 @@ tembuzar_map_answer2 tembuzar_read_record2(const uint8_t *bytes, size_t bytes_co
                                            double *odds, size_t odds_count, uint32_t *stamps, size_t stamps_count);
 
 /* The record of a map, from the first byte of out on; what follows it in out stays. The count is of its bytes.
- * Refuses with 1, 2, 3, 4, 9, 10, 11. 10: odds are below the floor or above the ceiling (NaN is neither); bytes is the
+ * Refuses with 1, 2, 3, 4, 9, 10, 11. 10: odds do not lie from the floor to the ceiling, or are NaN; bytes is the
  * offset that their row would have in the record. 11: out is shorter than the record; bytes is how many the record has,
  * so that a call with 0 bytes of out asks for the size. */
 tembuzar_count_answer tembuzar_write_record2(tembuzar_map2 map, const double *odds, size_t odds_count,

@@ -196,6 +196,9 @@ fn sweeps<L: Face<N>, const N: usize>(input: &mut Input<N>, tally: &mut Tally) -
     })?;
     refused(input, tally, ("set_log_odds", &[Model, Odds]), |i, want| {
         answers::refusal(L::set_log_odds(i.head, &mut i.odds, off, 1.0), Err(want))
+    })?;
+    refused(input, tally, ("set_log_odds_checked", &[Model, Odds]), |i, want| {
+        answers::refusal(L::set_log_odds_checked(i.head, &mut i.odds, off, f64::NAN), Err(want))
     })
 }
 

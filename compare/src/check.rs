@@ -191,7 +191,8 @@ impl<'a, const N: usize> Work<'a, N> {
         answers::mark(ours, theirs.map_err(refusal_of))
     }
 
-    /// Odds put into single cells.
+    /// Odds put into single cells, by turns with and without the check for NaN, which the original does not have: on the grid NaN is then
+    /// refused with 13, and everything else is the original's set.
     pub fn sets<L: Face<N>>(&mut self) -> Verdict {
         let mut tried = Vec::new();
         let verdict = (0..4).try_for_each(|_| {
@@ -199,9 +200,17 @@ impl<'a, const N: usize> Work<'a, N> {
             let model = self.model();
             let value = draw::odds(&mut self.rng, model);
             tried.push((cell, hex(&[value])));
-            let theirs = self.pair.original.set_log_odds(cell.map(|i| i as isize), value).map_err(refusal_of);
+            let checked = self.rng.chance(2);
+            let at = cell.map(|i| i as isize);
+            let theirs = match checked && value.is_nan() && self.pair.original.log_odds_at(at).is_some() {
+                true => Err(Refusal { number: 13, ..Refusal::default() }),
+                false => self.pair.original.set_log_odds(at, value).map_err(refusal_of),
+            };
             let head = self.pair.head;
-            let ours = L::set_log_odds(head, self.pair.lists().0, Cell(cell), value);
+            let ours = match checked {
+                true => L::set_log_odds_checked(head, self.pair.lists().0, Cell(cell), value),
+                false => L::set_log_odds(head, self.pair.lists().0, Cell(cell), value),
+            };
             self.tally.sets += 1;
             answers::refusal(ours, theirs)
         });

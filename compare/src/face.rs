@@ -17,6 +17,7 @@ pub trait Face<const N: usize> {
     fn mark_free(map: Map<N>, odds: &mut [f64], stamps: &mut [u32], cell: Cell<N>) -> MarkAnswer;
     fn mark_occupied(map: Map<N>, odds: &mut [f64], stamps: &mut [u32], cell: Cell<N>) -> MarkAnswer;
     fn set_log_odds(map: Map<N>, odds: &mut [f64], cell: Cell<N>, value: f64) -> Refusal;
+    fn set_log_odds_checked(map: Map<N>, odds: &mut [f64], cell: Cell<N>, value: f64) -> Refusal;
     fn log_odds_at(map: Map<N>, odds: &[f64], cell: Cell<N>) -> OddsAnswer;
     fn sample_log_odds(map: Map<N>, odds: &[f64], point: Point<N>) -> SampleAnswer<N>;
     fn cell_containing(map: Map<N>, point: Point<N>) -> CellAnswer<N>;
@@ -30,7 +31,8 @@ pub struct Tembuzar;
 /// The declarations of one number of axes, and the safe calls over them. The names are the header's.
 macro_rules! face {
     ($n:literal, $new:ident, $reset:ident, $begin_scan:ident, $open_scan:ident, $update_scan:ident, $update_beams:ident,
-     $update_ray:ident, $mark_free:ident, $mark_occupied:ident, $set_log_odds:ident, $log_odds_at:ident,
+     $update_ray:ident, $mark_free:ident, $mark_occupied:ident, $set_log_odds:ident,
+     $set_log_odds_checked:ident, $log_odds_at:ident,
      $sample_log_odds:ident, $cell_containing:ident, $plotter:ident, $step:ident) => {
         unsafe extern "C" {
             fn $new(e: Extents<$n>, m: Model, o: *mut f64, oc: usize, s: *mut u32, sc: usize) -> MapAnswer<$n>;
@@ -61,6 +63,7 @@ macro_rules! face {
             fn $mark_free(m: Map<$n>, o: *mut f64, oc: usize, s: *mut u32, sc: usize, c: Cell<$n>) -> MarkAnswer;
             fn $mark_occupied(m: Map<$n>, o: *mut f64, oc: usize, s: *mut u32, sc: usize, c: Cell<$n>) -> MarkAnswer;
             fn $set_log_odds(m: Map<$n>, o: *mut f64, oc: usize, c: Cell<$n>, v: f64) -> Refusal;
+            fn $set_log_odds_checked(m: Map<$n>, o: *mut f64, oc: usize, c: Cell<$n>, v: f64) -> Refusal;
             fn $log_odds_at(m: Map<$n>, o: *const f64, oc: usize, c: Cell<$n>) -> OddsAnswer;
             fn $sample_log_odds(m: Map<$n>, o: *const f64, oc: usize, p: Point<$n>) -> SampleAnswer<$n>;
             fn $cell_containing(m: Map<$n>, p: Point<$n>) -> CellAnswer<$n>;
@@ -101,6 +104,9 @@ macro_rules! face {
             fn set_log_odds(m: Map<$n>, o: &mut [f64], c: Cell<$n>, v: f64) -> Refusal {
                 unsafe { $set_log_odds(m, o.as_mut_ptr(), o.len(), c, v) }
             }
+            fn set_log_odds_checked(m: Map<$n>, o: &mut [f64], c: Cell<$n>, v: f64) -> Refusal {
+                unsafe { $set_log_odds_checked(m, o.as_mut_ptr(), o.len(), c, v) }
+            }
             fn log_odds_at(m: Map<$n>, o: &[f64], c: Cell<$n>) -> OddsAnswer {
                 unsafe { $log_odds_at(m, o.as_ptr(), o.len(), c) }
             }
@@ -132,6 +138,7 @@ face!(
     tembuzar_mark_free2,
     tembuzar_mark_occupied2,
     tembuzar_set_log_odds2,
+    tembuzar_set_log_odds_checked2,
     tembuzar_log_odds_at2,
     tembuzar_sample_log_odds2,
     tembuzar_cell_containing2,
@@ -150,6 +157,7 @@ face!(
     tembuzar_mark_free3,
     tembuzar_mark_occupied3,
     tembuzar_set_log_odds3,
+    tembuzar_set_log_odds_checked3,
     tembuzar_log_odds_at3,
     tembuzar_sample_log_odds3,
     tembuzar_cell_containing3,

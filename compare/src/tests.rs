@@ -54,6 +54,7 @@ const STRUCTS_HIT: u32 = 26;
 const LENT_FRAME: u32 = 27;
 const LENT_MODEL_BIT: u32 = 28;
 const LENT_REFUSED: u32 = 29;
+const SET_NAN: u32 = 30;
 
 /// The lowest bit of the fraction, turned over.
 fn turn(x: &mut f64) {
@@ -164,6 +165,12 @@ where
         }
         Tembuzar::set_log_odds(map, odds, cell, value)
     }
+    fn set_log_odds_checked(map: Map<N>, odds: &mut [f64], cell: C<N>, value: f64) -> Refusal {
+        if is(SET_NAN) {
+            return Tembuzar::set_log_odds(map, odds, cell, value);
+        }
+        Tembuzar::set_log_odds_checked(map, odds, cell, value)
+    }
     fn log_odds_at(map: Map<N>, odds: &[f64], cell: C<N>) -> OddsAnswer {
         let mut answer = Tembuzar::log_odds_at(map, odds, cell);
         match WRONG.get() {
@@ -249,6 +256,7 @@ fn wrong_cells_are_found() {
     found(FREE_CHANGED, "mark");
     found(OCCUPIED_VALUES, "mark");
     found(SET_ODDS, "set");
+    found(SET_NAN, "set");
     found(READ_FOUND, "read [");
     found(READ_ODDS_BIT, "read [");
     found(SAMPLE_GRADIENT_BIT, "sample at");

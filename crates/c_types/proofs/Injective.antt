@@ -61,7 +61,8 @@ refusal-back c =
     (cond (eqb n 7) (cond (eqb (c .values) 0) R.Ray (R.RayInList (c .place) (c .count)))
     (cond (eqb n 8) R.Beams
     (cond (eqb n 9) R.Frame
-    (cond (eqb n 10) (R.Record (c .bytes)) (R.Room (c .bytes)))))))))))
+    (cond (eqb n 10) (R.Record (c .bytes))
+    (cond (eqb n 11) (R.Room (c .bytes)) R.Odds))))))))))
 
 -- an answer where the number is 0, else the refusal
 abbrev read-back : {T : Type 0} → T → (Refusal.Refusal → T) → CRefusal → T
@@ -80,6 +81,7 @@ refused-there ok not-ok R.Beams = refl
 refused-there ok not-ok R.Frame = refl
 refused-there ok not-ok (R.Record offset) = refl
 refused-there ok not-ok (R.Room needed) = refl
+refused-there ok not-ok R.Odds = refl
 
 abbrev mark-back : CMarkAnswer → Mark.MarkAnswer
 mark-back c = read-back (Mark.the-variants.Changed (c .changed)) Mark.the-variants.Refused (c .refusal)

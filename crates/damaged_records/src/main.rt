@@ -118,6 +118,22 @@ fn every_byte_changed(bytes: &mut [u8]) {
     }
 }
 
+fn put(bytes: &mut [u8], at: usize, value: u8) {
+    if at < bytes.len() {
+        bytes[at] = value;
+    }
+}
+
+// The first odds number, 0.0, made a NaN, as a damaged card may leave it; afterwards it is 0.0 again.
+fn with_a_nan(bytes: &mut [u8]) {
+    put(bytes, 50, 248);
+    put(bytes, 51, 127);
+    text(b"An odds number made NaN: ");
+    reading(bytes);
+    put(bytes, 50, 0);
+    put(bytes, 51, 0);
+}
+
 fn damaged(bytes: &mut [u8]) {
     text(b"As written: ");
     reading(bytes);
@@ -125,6 +141,7 @@ fn damaged(bytes: &mut [u8]) {
     cut_at_every_length(bytes);
     text(b"Every byte changed in turn\n");
     every_byte_changed(bytes);
+    with_a_nan(bytes);
     text(b"As written: ");
     reading(bytes);
 }

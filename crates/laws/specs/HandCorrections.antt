@@ -18,7 +18,7 @@ use lib.ListN.{length}
 use lib.Ieee.{Float, Format}
 use Rattle.rules.specs.RefusalNumbers.{Refusal, Answer, given, refused, rayInList}
 use Rattle.rules.specs.RefusalNumbers.Entries.{Outcome, answered, headRefusal, usesOf, beams}
-use Rattle.rules.specs.RefusalNumbers.Entries.{resetEntry, beginScanEntry, markEntry, updateRayEntry, updateScanEntry, updateBeamsEntry, setLogOddsEntry}
+use Rattle.rules.specs.RefusalNumbers.Entries.{resetEntry, beginScanEntry, markEntry, updateRayEntry, updateScanEntry, updateBeamsEntry, setLogOddsEntry, setLogOddsCheckedEntry}
 use Rattle.rules.specs.TheGridAndItsBounds.{Head, Grid}
 use Rattle.rules.specs.OneBeam.{Beam, flatShape}
 
@@ -31,6 +31,7 @@ pub record Map : Type 0 where
 -- the calls that can change one; reads, samples, `cell_containing` and writing a record lend it for looking alone
 pub data Call : Type 0 where
   set-odds : List ℤ → Float → Call
+  set-checked : List ℤ → Float → Call
   mark : Bool → List ℤ → Call
   update-ray : Beam → Call
   update-scan : List Float → List ℕ → Call
@@ -46,6 +47,7 @@ headAfter h (refused r) = h
 -- the map after a call, refused or not
 abbrev pub after : Format → Call → Map → Map
 after f (set-odds cell x) m = record { head = m .head; grid = record { odds = setLogOddsEntry (m .head) cell x (m .grid .odds) .lent; stamps = m .grid .stamps } }
+after f (set-checked cell x) m = record { head = m .head; grid = record { odds = setLogOddsCheckedEntry (m .head) cell x (m .grid .odds) .lent; stamps = m .grid .stamps } }
 after f (mark occupied cell) m = record { head = m .head; grid = markEntry f occupied (m .head) cell (m .grid) .lent }
 after f (update-ray b) m = record { head = m .head; grid = updateRayEntry f (m .head) b (m .grid) .lent }
 after f (update-scan numbers hits) m = record { head = m .head; grid = updateScanEntry f (m .head) numbers hits (m .grid) .lent }

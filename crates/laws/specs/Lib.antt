@@ -1,11 +1,12 @@
 -- Theorems about the rules, of every format and any number of axes. `CountBound`, `WholeSample`, `DemandThree` and `MapRecord` are laws of
--- document 01, `FloorCost` and `HandCorrections` of change requests 9 and 10, each with its statement, and the steps of its proof in the folder of its name. The others are what the code's proofs share.
+-- document 01, `FloorCost`, `HandCorrections` and `CheckedSet` of change requests 9, 10 and 3, each with its statement, and the steps of its proof in the folder of its name. The others are what the code's proofs share.
 pub mod Floats
 pub mod CountBound
 pub mod WholeSample
 pub mod DemandThree
 pub mod FloorCost
 pub mod HandCorrections
+pub mod CheckedSet
 pub mod MapRecord
 pub mod Checks
 pub mod ModelBounds

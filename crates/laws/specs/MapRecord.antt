@@ -29,7 +29,7 @@ use Rattle.rules.specs.RefusalNumbers.{Refusal, Answer, given, refused, brokenR
 use Rattle.rules.specs.RefusalNumbers.Entries.{headRefusal, usesOf, writing, Outcome, readRecordEntry, writeRecordEntry}
 use Rattle.rules.specs.TheGridAndItsBounds.{Head, Grid, cells}
 use Rattle.rules.specs.MapRecord.{Stored, fromLittleEndian, recordBytes, recordOf, anyRecordOf, writable}
-use Rattle.laws.specs.MapRecord.Words.{AreBytes, NoNan, Held, IsRecord, IsBroken, mapRead, SameReading, AnyAxes}
+use Rattle.laws.specs.MapRecord.Words.{AreBytes, Held, IsRecord, IsBroken, mapRead, SameReading, AnyAxes}
 use Rattle.laws.specs.MapRecord.Fields.{begins-within}
 use Rattle.laws.specs.MapRecord.Heads.{rows-are-cells, tests-of-writing}
 use Rattle.laws.specs.MapRecord.Back.{record-bytes-length, writable-is, record-back}
@@ -38,7 +38,7 @@ use Rattle.laws.specs.MapRecord.Entries.{reads, read-from, same-reading,
 
 -- ---- written, then read
 -- A map that can be written is read again from its record as it was: the same extents, the same model and frame, and for every cell the same odds
--- as data, with the sign of a zero. An odds number that is a NaN reads as the NaN.
+-- as data, with the sign of a zero. (A map with a NaN among its odds cannot be written.)
 pub written-then-read : (axes : ℕ) (h : Head) (odds : List Float) (room n : ℕ) → length (h .extents) ≡ axes → 0 < axes
     → headRefusal (usesOf writing) h (length odds) 0 ≡ none → writable h odds room ≡ given n → Held h odds
     → recordOf axes (recordBytes h odds) ≡ given (record { head = h; odds = odds })
@@ -68,26 +68,24 @@ entries-written-then-read axes h odds out n g many some-axis held answer one-odd
     rw bytes (reads axes (recordBytes h odds) (record { head = h; odds = odds }) g back (one-odds, one-stamp))
 
 -- ---- read, then written
--- A map that was read from a record, with no NaN among its odds, is written as the same bytes. (A NaN's bytes are not kept: every NaN is written
--- alike. The model has none, since it is within its bounds.)
-pub read-then-written : (axes : ℕ) (bytes : List ℕ) (s : Stored) → recordOf axes bytes ≡ given s → AreBytes bytes → NoNan (s .odds)
-    → recordBytes (s .head) (s .odds) ≡ bytes
+-- A map that was read from a record is written as the same bytes. (Of many patterns of a NaN one is written, but no record holds one: the odds and the
+-- model are within their bounds.)
+pub read-then-written : (axes : ℕ) (bytes : List ℕ) (s : Stored) → recordOf axes bytes ≡ given s → AreBytes bytes → recordBytes (s .head) (s .odds) ≡ bytes
 read-then-written = read-again
 
 -- The same of the entries: what was read into the grid is written over the first bytes of any list that is long enough, the rest of which stays.
 pub entries-read-then-written : (axes : ℕ) (bytes : List ℕ) (g : Grid) (h : Head) (out : List ℕ) → 0 < axes → AreBytes bytes
-    → readRecordEntry axes bytes g .answer ≡ given h → NoNan (readRecordEntry axes bytes g .lent .odds) → length bytes ≤ length out
+    → readRecordEntry axes bytes g .answer ≡ given h → length bytes ≤ length out
     → writeRecordEntry h (readRecordEntry axes bytes g .lent .odds) out
     ≡ record { answer = given (length bytes); lent = bytes ++ drop (length bytes) out }
-entries-read-then-written axes bytes g h out some-axis b answer no-nan room =
+entries-read-then-written axes bytes g h out some-axis b answer room =
     let r = read-from axes bytes g h answer in
     let s = r .stored in
     let sound = read-sound axes bytes s some-axis (r .is) in
     let left : readRecordEntry axes bytes g ≡ mapRead s = reads axes bytes s g (r .is) (r .sizes) in
-    let no-nan′ : NoNan (s .odds) = subst (λ x. NoNan (x .lent .odds)) left no-nan in
     ap₂ (λ (x : Head) (y : Outcome Head Grid). writeRecordEntry x (y .lent .odds) out) (sym (r .head-is)) left
     ∙ writes (s .head) (s .odds) out (length bytes) (sound .passes) (sound .written (length out) room)
-    ∙ ap (λ (x : List ℕ). record { answer = given (length bytes); lent = x ++ drop (length bytes) out }) (read-again axes bytes s (r .is) b no-nan′)
+    ∙ ap (λ (x : List ℕ). record { answer = given (length bytes); lent = x ++ drop (length bytes) out }) (read-again axes bytes s (r .is) b)
 
 -- ---- two readings
 -- Two grids lent to read the same bytes, whatever they hold, get the same answer if they have the same sizes; and where a map is given, both grids

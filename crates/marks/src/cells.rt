@@ -3,9 +3,9 @@ ghost use mathlib.Core.Path.{_≡_};
 ghost use Prim.Native.Nat.{ℕ, _<_};
 ghost use lib.ListN.{length};
 ghost use Rattle.rules.specs.RefusalNumbers.{given};
-ghost use Rattle.rules.specs.RefusalNumbers.Entries.{readAt};
+ghost use Rattle.rules.specs.RefusalNumbers.Entries.{readAt, checkedAnswer};
 ghost use Rattle.rules.specs.MarksAndFrames.{setOdds};
-ghost use Rattle.types.specs.Answers.{cellRead};
+ghost use Rattle.types.specs.Answers.{cellRead, setAnswer};
 ghost use Rattle.types.specs.Models.{modelOf};
 ghost use Rattle.places.specs.Places.{placeOf};
 use crate::marks::limited;
@@ -13,6 +13,8 @@ use crate::marks::steps_at;
 use places::Place;
 use types::CellRead;
 use types::Model;
+use types::Refusal;
+use types::SetAnswer;
 
 // The odds at a place, or nothing off the grid. A place that was found is one of the list's, which has one number per cell (refusal 4).
 pub fn read_at(odds: &[f64], place: Place) -> CellRead
@@ -31,4 +33,21 @@ pub fn set_log_odds_at(odds: &mut [f64], at: usize, model: Model, x: f64)
     ensures { λ _. ⌜ now (odds .exit) ≡ setOdds (modelOf model) at x (now (odds .entry)) ⌝ }
 {
     odds[at] = limited(steps_at(model, at), x);
+}
+
+// The same at a place that may be refused, for a number: NaN is refused, after the place. A place that was found is one of the list's.
+pub fn set_checked_at(odds: &mut [f64], place: Place, model: Model, x: f64) -> SetAnswer
+    requires { ⌜ ((i : ℕ) → placeOf place ≡ given i → i < length (now odds)) ⌝ }
+    ensures { λ r. ⌜ record { answer = setAnswer r; lent = now (odds .exit) } ≡ checkedAnswer (modelOf model) x (now (odds .entry)) (placeOf place) ⌝ }
+{
+    match place {
+        Place::Refused(r) => SetAnswer::Refused(r),
+        Place::At(i) => {
+            if x != x {
+                return SetAnswer::Refused(Refusal::Odds);
+            }
+            set_log_odds_at(odds, i, model, x);
+            SetAnswer::Done
+        }
+    }
 }

@@ -5,6 +5,7 @@ mod frames;
 mod marks;
 
 pub use cells::read_at;
+pub use cells::set_checked_at;
 pub use cells::set_log_odds_at;
 pub use frames::clear_odds;
 pub use frames::clear_stamps;

@@ -1,15 +1,15 @@
 -- The odds of a row and of all rows, one step at a time: what a loop over them has left. Assumes nothing.
 use Prim.Native.Nat.{ℕ, zero, suc, _+_, _-_, _*_, _≤_, _<_}
-use mathlib.Core.Bool.{Bool, true, false, not, _&&_, _||_}
+use mathlib.Core.Bool.{true, false}
 use mathlib.Core.List.{List, [], _∷_, _++_, append-nil}
 use mathlib.Core.Path.{_≡_, refl, sym, ap, _∙_}
 use native.Mathlib.Nat.{suc-mul}
 use native.Mathlib.Omega.{arith}
-use lib.Ieee.{Float, binary64, ofBits, lt}
+use lib.Ieee.{Float, binary64, ofBits}
 use lib.ListN.{length, length-append, take, drop}
 use lib.Seq.{sets, sets-eq, drop-drop, drop-length}
-use Rattle.rules.specs.TheGridAndItsBounds.{Model, floor}
-use Rattle.rules.specs.MapRecord.{fromLittleEndian, floatsIn, oddsInBounds, fieldSize}
+use Rattle.rules.specs.TheGridAndItsBounds.{Model}
+use Rattle.rules.specs.MapRecord.{fromLittleEndian, floatsIn, fromFloorToCeiling, oddsInBounds, fieldSize}
 use Rattle.rows.specs.Rows.{oddsAt}
 
 -- one of so many and those after it
@@ -18,11 +18,11 @@ one-of zero k h = absurd (omega arith)
 one-of (suc n) k h = let e : suc n - 1 ≡ n = omega arith in rw (suc-mul, e) (omega arith)
 
 -- ---- bounds
-pub bounds-broken : (m : Model) (x : Float) (xs : List Float) → (lt x (floor m) || lt (m .ceiling) x) ≡ true → oddsInBounds m (x ∷ xs) ≡ false
+pub bounds-broken : (m : Model) (x : Float) (xs : List Float) → fromFloorToCeiling m x ≡ false → oddsInBounds m (x ∷ xs) ≡ false
 unfolding oddsInBounds
 bounds-broken m x xs h = rw h refl
 
-pub bounds-kept : (m : Model) (x : Float) (xs : List Float) → (lt x (floor m) || lt (m .ceiling) x) ≡ false → oddsInBounds m (x ∷ xs) ≡ oddsInBounds m xs
+pub bounds-kept : (m : Model) (x : Float) (xs : List Float) → fromFloorToCeiling m x ≡ true → oddsInBounds m (x ∷ xs) ≡ oddsInBounds m xs
 unfolding oddsInBounds
 bounds-kept m x xs h = rw h refl
 

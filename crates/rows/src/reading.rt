@@ -1,27 +1,26 @@
 // Rows of odds in a record: tried, and read. A row is a field of tag 4 with a float a cell.
 ghost use mathlib.Core.Path.{_≡_};
-ghost use mathlib.Core.Bool.{_&&_, _||_};
+ghost use mathlib.Core.Bool.{_&&_};
 ghost use Prim.Native.Nat.{_+_, _*_, _≤_};
-ghost use lib.Ieee.{lt};
 ghost use lib.ListN.{length, drop};
 ghost use lib.Seq.{sets};
-ghost use Rattle.rules.specs.TheGridAndItsBounds.{floor, mostExtent};
-ghost use Rattle.rules.specs.MapRecord.{fieldHere, fieldSize, floatsIn, oddsInBounds};
+ghost use Rattle.rules.specs.TheGridAndItsBounds.{mostExtent};
+ghost use Rattle.rules.specs.MapRecord.{fieldHere, fieldSize, floatsIn, fromFloorToCeiling, oddsInBounds};
 ghost use Rattle.types.specs.Models.{modelOf};
 ghost use Rattle.rows.specs.Rows.{oddsAt};
 use fields::f64_at;
 use fields::field_here;
 use types::Model;
 
-// Below the floor or above the ceiling; a NaN is neither.
-pub fn outside(model: Model, x: f64) -> bool
-    ensures { λ r. ⌜ r ≡ (lt x (floor (modelOf model)) || lt (model .ceiling) x) ⌝ }
+// From the floor to the ceiling, both included; a NaN is not.
+pub fn within(model: Model, x: f64) -> bool
+    ensures { λ r. ⌜ r ≡ fromFloorToCeiling (modelOf model) x ⌝ }
 {
     let ceiling = model.ceiling;
-    if x < -ceiling {
-        return true;
+    if -ceiling <= x {
+        return x <= ceiling;
     }
-    x > ceiling
+    false
 }
 
 // The floats of a row, each within the bounds. The row's field stands whole.
@@ -32,11 +31,12 @@ fn row_in_bounds(bytes: &[u8], at: usize, width: usize, model: Model) -> bool
     let mut here = at;
     let mut left = width;
     while left > 0 {
-        if outside(model, f64_at(bytes, here)) {
+        if within(model, f64_at(bytes, here)) {
+            here += 8;
+            left -= 1;
+        } else {
             return false;
         }
-        here += 8;
-        left -= 1;
     }
     true
 }

@@ -8,7 +8,7 @@ ghost use Rattle.rules.specs.MapRecord.{field, fieldSize, floatBytes, oddsInBou
 ghost use Rattle.types.specs.Models.{modelOf};
 ghost use Rattle.checks.specs.Checking.{checkOf};
 ghost use Rattle.rows.specs.Rows.{refusalIn};
-use crate::reading::outside;
+use crate::reading::within;
 use crate::refusal::broken;
 use checks::Check;
 use fields::put_f64;
@@ -23,11 +23,12 @@ fn odds_in_bounds(odds: &[f64], from: usize, width: usize, model: Model) -> bool
     let mut place = from;
     let mut left = width;
     while left > 0 {
-        if outside(model, odds[place]) {
+        if within(model, odds[place]) {
+            place += 1;
+            left -= 1;
+        } else {
             return false;
         }
-        place += 1;
-        left -= 1;
     }
     true
 }

@@ -10,7 +10,7 @@ use mathlib.Core.Option.{Option, some, none}
 use mathlib.Core.Path.{_≡_, refl}
 use lib.IntN.{ℤ, pos}
 use lib.ListN.{length, replicate, getD}
-use lib.Ieee.{Float, nan, binary64, round, add, sub, neg, mul, div, lt, le, eq, ofInt, toSigned, toUnsigned, toBits, ofBits}
+use lib.Ieee.{Float, nan, binary64, round, add, sub, neg, mul, div, lt, le, eq, ofInt, toSigned, toUnsigned, toBits, ofBits, isNan}
 use Rattle.rules.specs.RefusalNumbers.{Answer, given, refused, andThen}
 use Rattle.rules.specs.RefusalNumbers.{outOfBounds}
 use Rattle.rules.specs.Floats.{zeroF, halfF, oneF, numberF, mag, allFinite}
@@ -32,7 +32,7 @@ use Rattle.rules.specs.MapRecord.{recordBytes, rowsOffset, oddsInBounds,
 use Rattle.rules.specs.MapRecord.{roomFor, writable}
 use Rattle.rules.specs.RefusalNumbers.Entries.{Outcome, firstTooSmall, extentsRefusal, headRefusal, newEntry, resetEntry, beginScanEntry, markEntry, updateRayEntry}
 use Rattle.rules.specs.RefusalNumbers.Entries.{updateScanEntry, setLogOddsEntry, logOddsAtEntry, sampleLogOddsEntry, cellContainingEntry, readRecordEntry}
-use Rattle.rules.specs.RefusalNumbers.Entries.{writeRecordEntry}
+use Rattle.rules.specs.RefusalNumbers.Entries.{writeRecordEntry, setLogOddsCheckedEntry}
 
 -- the binary64 number nearest to n / d, and to - n / d
 abbrev plus : ℕ → ℕ → Float
@@ -138,7 +138,7 @@ pub record Figures : Type 0 where
 
 -- Opening this one opens every definition of the rules and the library's float operations, so that the figures compute.
 unfoldable opened : ℕ
-unfolding numberF mag allFinite cells allAtLeast allAtMost fitsCapacity extentsInBounds stridesFrom strides bounded floor onePerCell freshGrid truncated truncatedPoint within axisContaining containingFrom cellContaining along onGridFrom timesStrides flatIndex foldedAxis stencilAxis stencil corners cornerPlace weighed weighedWithout valueFrom slopeFrom gradientFrom sampleAt sample delta deltas larger primaryFrom primaryOf increment stepTo axisOf axesOf thresholdOf cellsYielded lineBetween plotter otherAfter primaryAfter axisAfter axesAfter lastStep earlierStep stepOf cellsWithin lineCells stepsAt stampOf clamp limited freed markFree occupiedStep occupy markOccupied markCell markAt marked changes setOdds openedFrame openedStamps openFrame largerOf smallerOf cutTo slab slabs directions pointAt bothBeyond allWithin isInside clampAxis clampPoint clippedAt clip marksAlong marksBetween beamMarks integratedBeam integratedFrom integrated allBits flatShape beamsOf littleEndian fromLittleEndian field fieldHere extentBytes extentsIn floatBytes floatsIn rowCount rowsBytes recordBytes rowsOffset oddsInBounds endIn rowsIn frameIn modelFrom recordOf anyRecordOf rowsChecked recordSize roomFor writable firstTooSmall extentsRefusal headRefusal newEntry resetEntry beginScanEntry markEntry updateRayEntry updateScanEntry setLogOddsEntry logOddsAtEntry sampleLogOddsEntry cellContainingEntry readRecordEntry writeRecordEntry round add sub neg mul div lt le eq ofInt toSigned toUnsigned toBits ofBits
+unfolding numberF mag allFinite cells allAtLeast allAtMost fitsCapacity extentsInBounds stridesFrom strides bounded floor onePerCell freshGrid truncated truncatedPoint within axisContaining containingFrom cellContaining along onGridFrom timesStrides flatIndex foldedAxis stencilAxis stencil corners cornerPlace weighed weighedWithout valueFrom slopeFrom gradientFrom sampleAt sample delta deltas larger primaryFrom primaryOf increment stepTo axisOf axesOf thresholdOf cellsYielded lineBetween plotter otherAfter primaryAfter axisAfter axesAfter lastStep earlierStep stepOf cellsWithin lineCells stepsAt stampOf clamp limited freed markFree occupiedStep occupy markOccupied markCell markAt marked changes setOdds openedFrame openedStamps openFrame largerOf smallerOf cutTo slab slabs directions pointAt bothBeyond allWithin isInside clampAxis clampPoint clippedAt clip marksAlong marksBetween beamMarks integratedBeam integratedFrom integrated allBits flatShape beamsOf littleEndian fromLittleEndian field fieldHere extentBytes extentsIn floatBytes floatsIn rowCount rowsBytes recordBytes rowsOffset oddsInBounds endIn rowsIn frameIn modelFrom recordOf anyRecordOf rowsChecked recordSize roomFor writable firstTooSmall extentsRefusal headRefusal newEntry resetEntry beginScanEntry markEntry updateRayEntry updateScanEntry setLogOddsEntry setLogOddsCheckedEntry logOddsAtEntry sampleLogOddsEntry cellContainingEntry readRecordEntry writeRecordEntry round add sub neg mul div lt le eq ofInt toSigned toUnsigned toBits ofBits isNan
 opened = 0
 
 pub figures : Figures

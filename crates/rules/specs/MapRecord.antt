@@ -1,10 +1,10 @@
 -- Document 01, "Map record (added)": the bytes of a map, and what a list of bytes means. A record's floats are binary64's. Definitions only.
 use Prim.Native.Nat.{ℕ, zero, suc, _+_, _*_, _/_, _%_}
-use mathlib.Core.Bool.{Bool, true, cond, not, _&&_, _||_}
+use mathlib.Core.Bool.{Bool, true, cond, _&&_}
 use mathlib.Core.List.{List, [], _∷_, _++_}
 use lib.Dec.{eqb, leb}
 use lib.ListN.{length, getD, take, drop}
-use lib.Ieee.{Float, nan, binary64, lt, toBits, ofBits}
+use lib.Ieee.{Float, nan, binary64, le, toBits, ofBits}
 use Rattle.rules.specs.RefusalNumbers.{Answer, given, refused, andThen, brokenRecord, noRoom}
 use Rattle.rules.specs.TheGridAndItsBounds.{Model, Head, cells, floor, bounded, extentsInBounds}
 use Rattle.rules.specs.MarksAndFrames.{openFrame}
@@ -71,10 +71,13 @@ recordBytes h odds =
 unfoldable pub rowsOffset : ℕ → ℕ
 rowsOffset axes = fieldSize (2 * axes) + fieldSize 24 + fieldSize 4
 
--- "An odds number below the floor or above the ceiling breaks its field"; a NaN is neither
+-- Change request 3: "A record's odds must lie from the floor to the ceiling, both included and NaN excluded, when read and when written."
+abbrev pub fromFloorToCeiling : Model → Float → Bool
+fromFloorToCeiling m x = le (floor m) x && le x (m .ceiling)
+
 unfoldable pub oddsInBounds : Model → List Float → Bool
 oddsInBounds m [] = true
-oddsInBounds m (x ∷ xs) = not (lt x (floor m) || lt (m .ceiling) x) && oddsInBounds m xs
+oddsInBounds m (x ∷ xs) = fromFloorToCeiling m x && oddsInBounds m xs
 
 -- what a record holds: the head, and the odds in index order
 pub record Stored : Type 0 where

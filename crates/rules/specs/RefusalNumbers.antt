@@ -56,6 +56,10 @@ brokenRecord offset = record { number = 10; values = pos offset ∷ [] }
 abbrev pub noRoom : ℕ → Refusal
 noRoom needed = record { number = 11; values = pos needed ∷ [] }
 
+-- "13, odds not a number" | change request 3: `set_log_odds_checked` with NaN | -
+abbrev pub oddsNotANumber : Refusal
+oddsNotANumber = record { number = 13; values = [] }
+
 -- an answer: what was asked for, or the refusal
 pub data Answer (A : Type 0) : Type 0 where
   given : A → Answer A

@@ -43,7 +43,8 @@ refusal-back r =
     (cond (eqb n 7) (cond (eqb (length (r .values)) 0) R.Ray (R.RayInList (value r 0) (value r 1)))
     (cond (eqb n 8) R.Beams
     (cond (eqb n 9) R.Frame
-    (cond (eqb n 10) (R.Record (value r 0)) (R.Room (value r 0)))))))))))
+    (cond (eqb n 10) (R.Record (value r 0))
+    (cond (eqb n 11) (R.Room (value r 0)) R.Odds))))))))))
 
 pub refusal-there : (r : Refusal.Refusal) → refusal-back (refusalOf r) ≡ r
 unfolding refusal-back value
@@ -59,6 +60,7 @@ refusal-there R.Beams = refl
 refusal-there R.Frame = refl
 refusal-there (R.Record offset) = refl
 refusal-there (R.Room needed) = refl
+refusal-there R.Odds = refl
 
 pub refusal-injective : Injective refusalOf
 refusal-injective = of-back refusalOf refusal-back refusal-there

@@ -2,7 +2,7 @@
 use Rattle.rules.specs.RefusalNumbers as Paper
 use Rattle.types.specs.declared.refusal.Refusal as Code
 use Rattle.types.specs.declared.refusal.Refusal.the-variants.{DimensionTooSmall, CapacityOverflow, Model, Buffer, OutOfBounds}
-use Rattle.types.specs.declared.refusal.Refusal.the-variants.{NonFiniteCoordinate, Ray, RayInList, Beams, Frame, Record, Room}
+use Rattle.types.specs.declared.refusal.Refusal.the-variants.{NonFiniteCoordinate, Ray, RayInList, Beams, Frame, Record, Room, Odds}
 
 abbrev pub refusalOf : Code.Refusal → Paper.Refusal
 refusalOf (DimensionTooSmall axis extent) = Paper.dimensionTooSmall axis extent
@@ -17,3 +17,4 @@ refusalOf Beams = Paper.badBeams
 refusalOf Frame = Paper.badFrame
 refusalOf (Record offset) = Paper.brokenRecord offset
 refusalOf (Room needed) = Paper.noRoom needed
+refusalOf Odds = Paper.oddsNotANumber

@@ -25,4 +25,6 @@ pub enum Refusal {
     Record { offset: u64 },
     // The output is shorter than the record.
     Room { needed: u64 },
+    // The odds are not a number.
+    Odds,
 }

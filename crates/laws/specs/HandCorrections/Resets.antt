@@ -2,23 +2,24 @@
 -- Assumes nothing.
 use Prim.Native.Nat.{ℕ}
 use mathlib.Core.Path.{_≡_, refl, sym, ap, ap₂, _∙_}
-use mathlib.Core.Bool.{Bool, true}
+use mathlib.Core.Bool.{Bool, true, false}
 use mathlib.Core.List.{List, [], _∷_}
 use mathlib.Core.Option.{Option, some, none}
 use native.Mathlib.Omega.{arith}
 use lib.IntN.{ℤ}
 use lib.ListN.{length, length-set, length-replicate}
-use lib.Ieee.{Float, Format}
+use lib.Ieee.{Float, isNan, Format}
 use Rattle.rules.specs.RefusalNumbers.{Refusal, Answer, given, refused, badBuffer, badBeams}
 use Rattle.rules.specs.RefusalNumbers.Entries.{Outcome, orElse, unlessHolds, unlessRefused, extentsRefusal, headRefusal, usesOf, reset, begin-scan, marks, beams}
-use Rattle.rules.specs.RefusalNumbers.Entries.{resetEntry, beginScanEntry, markAnswer, markEntry, ofIntegrated, updateRayEntry, updateScanEntry, updateBeamsEntry, setLogOddsEntry}
+use Rattle.rules.specs.RefusalNumbers.Entries.{resetEntry, beginScanEntry, markAnswer, markEntry, ofIntegrated, updateRayEntry, updateScanEntry, updateBeamsEntry, setLogOddsEntry, setLogOddsCheckedEntry}
 use Rattle.rules.specs.TheGridAndItsBounds.{Model, Head, Grid, cells, onePerCell, freshGrid, freshFrame}
 use Rattle.rules.specs.Coordinates.{flatIndex}
 use Rattle.rules.specs.MarksAndFrames.{openedFrame, openedStamps}
 use Rattle.rules.specs.OneBeam.{Beam, integratedBeam, integrated, flatShape, beamsOf}
 use Rattle.laws.specs.Checks.{passed}
 use Rattle.laws.specs.DemandThree.Proof.{opened-length}
-use Rattle.laws.specs.HandCorrections.{Map, Call, set-odds, mark, update-ray, update-scan, update-beams, open-scan, reset-map, headAfter, after, afterAll}
+use Rattle.laws.specs.HandCorrections.{Map, Call, set-odds, set-checked, mark, update-ray, update-scan, update-beams, open-scan, reset-map, headAfter, after, afterAll}
+use Rattle.laws.specs.CheckedSet.{number-set, nan-refused}
 use Rattle.laws.specs.HandCorrections.Sets.{set-length}
 use Rattle.laws.specs.HandCorrections.Lists.{list-is, list-keeps}
 use Rattle.laws.specs.HandCorrections.Sweeps.{beam-odds, beam-stamps}
@@ -130,10 +131,19 @@ beams-kept : (f : Format) (h : Head) (bs : List Beam) (g : Grid) → Sized g (up
 unfolding updateBeamsEntry
 beams-kept f h bs g = list-kept f h (headRefusal (usesOf beams) h (length (g .odds)) (length (g .stamps))) bs g
 
+checked-length : (h : Head) (cell : List ℤ) (x : Float) (odds : List Float) → length (setLogOddsCheckedEntry h cell x odds .lent) ≡ length odds
+checked-length h cell x odds = go (isNan x) refl
+  where
+    go : (b : Bool) → isNan x ≡ b → length (setLogOddsCheckedEntry h cell x odds .lent) ≡ length odds
+    go true e = ap (λ (o : Outcome (Unit {0}) (List Float)). length (o .lent)) (nan-refused h cell x odds e)
+    go false e = ap (λ (o : Outcome (Unit {0}) (List Float)). length (o .lent)) (number-set h cell x odds e) ∙ set-length h cell x odds
+
 call-keeps : (f : Format) (c : Call) (m : Map) → Kept m (after f c m)
 unfolding beginScanEntry resetEntry
 call-keeps f (set-odds cell x) m =
     same-head m (record { odds = setLogOddsEntry (m .head) cell x (m .grid .odds) .lent; stamps = m .grid .stamps }) (record { odds = set-length (m .head) cell x (m .grid .odds); stamps = refl })
+call-keeps f (set-checked cell x) m =
+    same-head m (record { odds = setLogOddsCheckedEntry (m .head) cell x (m .grid .odds) .lent; stamps = m .grid .stamps }) (record { odds = checked-length (m .head) cell x (m .grid .odds); stamps = refl })
 call-keeps f (mark occupied cell) m = same-head m (markEntry f occupied (m .head) cell (m .grid) .lent) (mark-kept f (m .head) occupied cell (m .grid))
 call-keeps f (update-ray b) m = same-head m (updateRayEntry f (m .head) b (m .grid) .lent) (ray-kept f (m .head) b (m .grid))
 call-keeps f (update-scan numbers hits) m = same-head m (updateScanEntry f (m .head) numbers hits (m .grid) .lent) (scan-kept f (m .head) numbers hits (m .grid))

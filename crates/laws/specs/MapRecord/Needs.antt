@@ -6,7 +6,7 @@ use mathlib.Core.Bool.{true, false}
 use mathlib.Core.List.{List, [], _∷_, _++_}
 use mathlib.Core.Option.{none}
 use lib.IntN.{pos, negsuc}
-use lib.ListN.{length, getD, take, set, replicate}
+use lib.ListN.{length, take, set, replicate}
 use lib.Ieee.{Float, nan, fin, binary64, lt, le, eq, neg, toBits, ofBits, fits}
 use Rattle.rules.specs.Floats.{zeroF, halfF, oneF}
 use Rattle.rules.specs.RefusalNumbers.{given, refused, brokenRecord}
@@ -27,9 +27,9 @@ model = record { occupied = fin false 3 (negsuc 1); free = fin true 1 (negsuc 0)
 abbrev headOf : List ℕ → Head
 headOf es = record { extents = es; model = model; frame = 1 }
 
--- the ceiling, -0.0, 0.5 and a NaN
+-- the ceiling, -0.0, 0.5 and the floor
 abbrev four : List Float
-four = fin false 1 (pos 2) ∷ fin true 0 (pos 0) ∷ halfF ∷ nan ∷ []
+four = fin false 1 (pos 2) ∷ fin true 0 (pos 0) ∷ halfF ∷ fin true 1 (pos 2) ∷ []
 
 -- the record of a 2 by 2 map; its first odds number stands at bytes 44 to 51
 abbrev bytesOf : List Float → List ℕ
@@ -74,11 +74,9 @@ pub record Needed : Type 0 where
   pub held-needed :
       recordOf 2 (bytesOf (evenTwo ∷ zeroF ∷ zeroF ∷ zeroF ∷ []))
       ≡ given (record { head = headOf (2 ∷ 2 ∷ []); odds = fin false 1 (pos 1) ∷ zeroF ∷ zeroF ∷ zeroF ∷ [] })
-  -- A NaN of another pattern: it is read as the NaN, and written with byte 0 where 1 was.
-  pub nan-read :
-      recordOf 2 (set (bytesOf (nan ∷ zeroF ∷ zeroF ∷ zeroF ∷ [])) 44 1)
-      ≡ given (record { head = headOf (2 ∷ 2 ∷ []); odds = nan ∷ zeroF ∷ zeroF ∷ zeroF ∷ [] })
-  pub nan-needed : getD (bytesOf (nan ∷ zeroF ∷ zeroF ∷ zeroF ∷ [])) 44 0 ≡ 0
+  -- A NaN, of the pattern that would be written and of another: each breaks its row. So no record holds a NaN, whose bytes could not be told from it again.
+  pub nan-broken : recordOf 2 (bytesOf (nan ∷ zeroF ∷ zeroF ∷ zeroF ∷ [])) ≡ refused (brokenRecord 41)
+  pub other-nan-broken : recordOf 2 (set (bytesOf (nan ∷ zeroF ∷ zeroF ∷ zeroF ∷ [])) 44 1) ≡ refused (brokenRecord 41)
   -- A number above 255 where a byte belongs: the frame 256, of which 0, 1, 0, 0 is written.
   pub bytes-read :
       recordOf 2 (set (bytesOf (replicate 4 zeroF)) 37 256)
@@ -106,8 +104,8 @@ needed =
       odds-needed = refl;
       held-fails = refl;
       held-needed = refl;
-      nan-read = refl;
-      nan-needed = refl;
+      nan-broken = refl;
+      other-nan-broken = refl;
       bytes-read = refl;
       bytes-needed = refl;
       nothing-broken = refl;

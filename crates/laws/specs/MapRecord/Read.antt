@@ -129,6 +129,7 @@ module _ (axes : ℕ) (bytes : List ℕ) (s : Stored) (p : Parts axes bytes s) w
         written = λ room l. unfold writable roomFor in
             rw (p .rows .checked (rowsOffset (length es)), le-leb (recordSize es) room (omega (arith, size-of))) (ap given (sym size-of));
         held = held-of;
+        numbers = p .rows .numbers;
       }
 
 -- ---- writing it again gives the bytes
@@ -153,10 +154,9 @@ model-not-nan m b =
     (each-cons NotNan nan (m .free) (m .ceiling ∷ []) (negative-not-nan (m .free) (t .1))
     (each-cons NotNan nan (m .ceiling) [] (positive-not-nan (m .ceiling) (t .2)) (each-nil NotNan nan)))
 
-record-again : (axes : ℕ) (bytes : List ℕ) (s : Stored) (p : Parts axes bytes s) → AreBytes bytes → NoNan (p .odds)
-    → recordBytes (headIn axes bytes) (p .odds) ≡ bytes
+record-again : (axes : ℕ) (bytes : List ℕ) (s : Stored) (p : Parts axes bytes s) → AreBytes bytes → recordBytes (headIn axes bytes) (p .odds) ≡ bytes
 unfolding recordBytes floatsIn
-record-again axes bytes s p b h =
+record-again axes bytes s p b =
     let rest₁ = behindExtents axes bytes in
     let rest₂ = behindModel axes bytes in
     let b₁ = each-drop IsByte 0 (fieldSize (2 * axes)) bytes b in
@@ -172,16 +172,14 @@ record-again axes bytes s p b h =
     (model-not-nan (headIn axes bytes .model) (p .model-sound)))
     (ap₂ (λ (x y : List ℕ). field 3 x ++ y)
     (little-endian-again 4 (drop 3 rest₂) (each-drop IsByte 0 3 rest₂ b₂) (omega (arith, length-drop 3 rest₂)))
-    (p .rows .again b₃ h)
+    (p .rows .again b₃)
     ∙ field-again 3 4 rest₂ b₂ (p .frame-found))
     ∙ field-again 2 24 rest₁ b₁ (p .model-found))
     ∙ field-again 1 (2 * axes) bytes b (p .extents-found))
 
-pub read-again : (axes : ℕ) (bytes : List ℕ) (s : Stored) → recordOf axes bytes ≡ given s → AreBytes bytes → NoNan (s .odds)
-    → recordBytes (s .head) (s .odds) ≡ bytes
-read-again axes bytes s e b h =
-    let p = parts axes bytes s e in
-    subst (λ (x : Stored). NoNan (x .odds) → recordBytes (x .head) (x .odds) ≡ bytes) (p .is) (record-again axes bytes s p b) h
+pub read-again : (axes : ℕ) (bytes : List ℕ) (s : Stored) → recordOf axes bytes ≡ given s → AreBytes bytes → recordBytes (s .head) (s .odds) ≡ bytes
+read-again axes bytes s e b =
+    let p = parts axes bytes s e in subst (λ (x : Stored). recordBytes (x .head) (x .odds) ≡ bytes) (p .is) (record-again axes bytes s p b)
 
 pub read-sound : (axes : ℕ) (bytes : List ℕ) (s : Stored) → 0 < axes → recordOf axes bytes ≡ given s → Sound axes bytes s
 read-sound axes bytes s some-axis e =

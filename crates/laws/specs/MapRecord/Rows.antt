@@ -1,7 +1,7 @@
 -- The rows of odds and the end of a record: there and back, and what is known of rows that were read. Of any width and number of rows.
 -- Assumes nothing.
 use Prim.Native.Nat.{ℕ, zero, suc, _+_, _*_, _≤_, _<_}
-use mathlib.Core.Bool.{Bool, true, false, _&&_}
+use mathlib.Core.Bool.{Bool, true, false, _&&_, true≢false}
 use mathlib.Core.List.{List, [], _∷_, _++_, append-assoc}
 use mathlib.Core.Logic.{_⊎_, inl, inr}
 use mathlib.Core.Path.{_≡_, refl, sym, ap, ap₂, _∙_, subst}
@@ -10,14 +10,14 @@ use native.Mathlib.Omega.{arith}
 use lib.Dec.{eqb}
 use lib.ListN.{length, take, drop, length-append, length-drop, take-append-drop, drop-of-length-le}
 use lib.Seq.{take-at, drop-at, length-take-le}
-use lib.Ieee.{Float, nan}
+use lib.Ieee.{Float, nan, lt, eq, le}
 use borrow.Author.Tests.{eqb-true}
 use Rattle.rules.specs.RefusalNumbers.{Refusal, given, refused, andThen, brokenRecord}
-use Rattle.rules.specs.TheGridAndItsBounds.{Model}
+use Rattle.rules.specs.TheGridAndItsBounds.{Model, floor}
 use Rattle.rules.specs.MapRecord.{field, fieldHere, fieldSize, soundOr, floatBytes, floatsIn}
-use Rattle.rules.specs.MapRecord.{rowsBytes, oddsInBounds, endIn, rowsIn, rowsChecked, littleEndian, fromLittleEndian}
+use Rattle.rules.specs.MapRecord.{rowsBytes, fromFloorToCeiling, oddsInBounds, endIn, rowsIn, rowsChecked, littleEndian, fromLittleEndian}
 use Rattle.laws.specs.MapRecord.Words.{IsByte, AreBytes, Is64, Are64, NotNan, NoNan}
-use Rattle.laws.specs.MapRecord.Each.{each-nil, each-take, each-drop, each-append, each-left, each-right, both}
+use Rattle.laws.specs.MapRecord.Each.{each-nil, each-cons, each-take, each-drop, each-append, both}
 use Rattle.laws.specs.MapRecord.Numbers.{float-bytes-length, floats-in-length, floats-back, floats-in-64, floats-again}
 use Rattle.laws.specs.MapRecord.Fields.{field-length, field-contents, field-after, field-found, field-again, Found, found}
 use Rattle.laws.specs.MapRecord.Fields.{sound-given, then-given, sound-refused, then-refused}
@@ -70,14 +70,28 @@ rows-back m w (suc n) o q odds c e h l =
     ∙ ap given (take-append-drop w odds))
 
 -- ---- read
+-- odds from the floor to the ceiling are numbers
+at-most-not-nan : (x y : Float) → le x y ≡ true → NotNan x
+unfolding le lt eq
+at-most-not-nan x y h e = let z : _≡_ {A = Bool} false true = subst (λ (w : Float). le w y ≡ true) e h in true≢false (sym z)
+
+bounds-no-nan : (m : Model) (xs : List Float) → oddsInBounds m xs ≡ true → NoNan xs
+unfolding oddsInBounds
+bounds-no-nan m [] b = each-nil NotNan nan
+bounds-no-nan m (x ∷ xs) b =
+    let p = both (fromFloorToCeiling m x) (oddsInBounds m xs) b in
+    let q = both (le (floor m) x) (le x (m .ceiling)) (p .0) in
+    each-cons NotNan nan x xs (at-most-not-nan x (m .ceiling) (q .1)) (bounds-no-nan m xs (p .1))
+
 -- what is known of rows that were read: how long they are, that they could be written, and that binary64 holds them
 pub record RowsRead (m : Model) (w n : ℕ) (rest : List ℕ) (odds : List Float) : Type 0 where
   pub odds-length : length odds ≡ n * w
   pub bytes-length : length rest ≡ n * fieldSize (8 * w) + fieldSize 0
   pub checked : (o : ℕ) → rowsChecked m w n o odds ≡ given tt
   pub held : Are64 odds
-  -- and that writing them gives the bytes again
-  pub again : AreBytes rest → NoNan odds → rowsBytes w n odds ++ field 5 [] ≡ rest
+  -- that none is a NaN, and that writing them gives the bytes again
+  pub numbers : NoNan odds
+  pub again : AreBytes rest → rowsBytes w n odds ++ field 5 [] ≡ rest
 
 end-again : (w : ℕ) (rest : List ℕ) → AreBytes rest → Found 5 0 rest → length rest ≡ 3 → rowsBytes w zero [] ++ field 5 [] ≡ rest
 unfolding rowsBytes field littleEndian
@@ -100,7 +114,8 @@ end-read m w o rest odds e =
           bytes-length = l ∙ omega (arith, zero-mul (fieldSize (8 * w)));
           checked = λ q. unfold rowsChecked in refl;
           held = each-nil Is64 nan;
-          again = λ b h. end-again w rest b f l;
+          numbers = each-nil NotNan nan;
+          again = λ b. end-again w rest b f l;
         })
 
 one-row-read : (m : Model) (w n : ℕ) (rest : List ℕ) (ys : List Float) → Found 4 (8 * w) rest → oddsInBounds m (floatsIn w (drop 3 rest)) ≡ true
@@ -112,6 +127,7 @@ one-row-read m w n rest ys f sound r =
       bytes-length = omega (arith, length-drop (fieldSize (8 * w)) rest);
       checked = λ q. unfold rowsChecked in rw (first, others, sound) (r .checked (q + fieldSize (8 * w)));
       held = each-append Is64 nan row ys (floats-in-64 w (drop 3 rest)) (r .held);
+      numbers = each-append NotNan nan row ys here (r .numbers);
       again = written;
     }
   where
@@ -127,12 +143,15 @@ one-row-read m w n rest ys f sound r =
     others : drop w (floatsIn w (drop 3 rest) ++ ys) ≡ ys
     others = drop-at (floatsIn w (drop 3 rest)) ys w many
 
-    written : AreBytes rest → NoNan (floatsIn w (drop 3 rest) ++ ys) → rowsBytes w (suc n) (floatsIn w (drop 3 rest) ++ ys) ++ field 5 [] ≡ rest
-    written b h =
+    here : NoNan (floatsIn w (drop 3 rest))
+    here = bounds-no-nan m (floatsIn w (drop 3 rest)) sound
+
+    written : AreBytes rest → rowsBytes w (suc n) (floatsIn w (drop 3 rest) ++ ys) ++ field 5 [] ≡ rest
+    written b =
         rw (first, others, append-assoc)
         (ap₂ (λ (x y : List ℕ). field 4 x ++ y)
-        (floats-again w (drop 3 rest) (each-drop IsByte 0 3 rest b) (omega (arith, length-drop 3 rest)) (each-left NotNan nan row ys h))
-        (r .again (each-drop IsByte 0 (fieldSize (8 * w)) rest b) (each-right NotNan nan row ys h))
+        (floats-again w (drop 3 rest) (each-drop IsByte 0 3 rest b) (omega (arith, length-drop 3 rest)) here)
+        (r .again (each-drop IsByte 0 (fieldSize (8 * w)) rest b))
         ∙ field-again 4 (8 * w) rest b f)
 
 pub rows-read : (m : Model) (w n o : ℕ) (rest : List ℕ) (odds : List Float) → rowsIn m w n o rest ≡ given odds → RowsRead m w n rest odds

@@ -58,8 +58,9 @@ pub record Sound (axes : ℕ) (bytes : List ℕ) (s : Stored) : Type 0 where
   -- Its head passes every check of writing, its odds too, so that it is written where there is room for as many bytes.
   pub passes : headRefusal (usesOf writing) (s .head) (length (s .odds)) 0 ≡ none
   pub written : (room : ℕ) → length bytes ≤ room → writable (s .head) (s .odds) room ≡ given (length bytes)
-  -- Its floats are values of binary64.
+  -- Its floats are values of binary64, and none of its odds is a NaN.
   pub held : Held (s .head) (s .odds)
+  pub numbers : NoNan (s .odds)
 
 -- bytes that are a record of so many axes
 pub record IsRecord (axes : ℕ) (bytes : List ℕ) : Type 0 where

@@ -3,23 +3,28 @@
 use Prim.Native.Nat.{ℕ}
 use mathlib.Core.List.{List, [], _∷_, _++_, map}
 use mathlib.Core.Path.{_≡_, refl}
+use lib.IntN.{pos}
 use lib.ListN.{length, replicate, take}
-use lib.Ieee.{nan, binary64}
+use lib.Ieee.{Float, nan, binary64}
 use Rattle.rules.specs.RefusalNumbers.{given, refused}
 use Rattle.rules.specs.RefusalNumbers.{dimensionTooSmall, capacityOverflow, badModel, badBuffer}
-use Rattle.rules.specs.RefusalNumbers.{badBeams, badFrame, brokenRecord, noRoom}
+use Rattle.rules.specs.RefusalNumbers.{outOfBounds, badBeams, badFrame, brokenRecord, noRoom, oddsNotANumber}
 use Rattle.rules.specs.Floats.{zeroF, halfF, oneF}
 use Rattle.rules.specs.TheGridAndItsBounds.{Model, Head, Grid}
 use Rattle.rules.specs.Coordinates.{within}
 use Rattle.rules.specs.MapRecord.{recordBytes, anyRecordOf}
 use Rattle.rules.specs.RefusalNumbers.Entries.{Outcome, newEntry}
 use Rattle.rules.specs.RefusalNumbers.Entries.{updateScanEntry, readRecordEntry}
-use Rattle.rules.specs.RefusalNumbers.Entries.{writeRecordEntry}
+use Rattle.rules.specs.RefusalNumbers.Entries.{writeRecordEntry, setLogOddsCheckedEntry}
 use Rattle.rules.specs.FiguresToTestOn.{plus, minus, model, headOf, fresh, upTo3, lent, scanOf, opened}
 
 -- the record of the map of 2 by 2 with odds 0, 1, 2, 3 at frame 2
 abbrev stored : List ℕ
 stored = recordBytes (headOf 2 2 2) upTo3
+
+-- the floor and the ceiling, and zeros of both signs
+abbrev atBounds : List Float
+atBounds = minus 4 1 ∷ plus 4 1 ∷ zeroF ∷ minus 0 1 ∷ []
 
 abbrev newOf : List ℕ → Model → Outcome Head Grid
 newOf es m = newEntry es m (lent upTo3)
@@ -50,6 +55,16 @@ pub record AddedAnswers : Type 0 where
   pub cut-short : reading (take 78 stored) ≡ brokenAt 60
   pub bytes-after-the-end : reading (stored ++ 0 ∷ []) ≡ brokenAt 82
   pub odds-too-high : reading (recordBytes (headOf 2 2 2) (zeroF ∷ plus 5 1 ∷ plus 2 1 ∷ plus 3 1 ∷ [])) ≡ brokenAt 41
+  -- change request 3: NaN breaks its row, read and written; the floor and the ceiling themselves do not
+  pub nan-read : reading (recordBytes (headOf 2 2 2) (zeroF ∷ zeroF ∷ nan ∷ zeroF ∷ [])) ≡ brokenAt 60
+  pub nan-written : writeRecordEntry (headOf 2 2 2) (nan ∷ zeroF ∷ zeroF ∷ zeroF ∷ []) [] ≡ record { answer = refused (brokenRecord 41); lent = [] }
+  pub bounds-read : reading (recordBytes (headOf 2 2 2) atBounds) ≡ record { answer = given (headOf 2 2 2); lent = lent atBounds }
+  -- the checked setter: NaN is refused with 13, after 5; else it sets as `set_log_odds` does
+  pub nan-set : setLogOddsCheckedEntry (headOf 2 2 2) (pos 0 ∷ pos 0 ∷ []) nan upTo3 ≡ record { answer = refused oddsNotANumber; lent = upTo3 }
+  pub off-grid-before-nan : setLogOddsCheckedEntry (headOf 2 2 2) (pos 0 ∷ pos 2 ∷ []) nan upTo3 ≡ record { answer = refused (outOfBounds 1 (pos 2) 2); lent = upTo3 }
+  pub number-set :
+      setLogOddsCheckedEntry (headOf 2 2 2) (pos 0 ∷ pos 0 ∷ []) (plus 9 1) upTo3
+      ≡ record { answer = given tt; lent = plus 4 1 ∷ oneF ∷ plus 2 1 ∷ plus 3 1 ∷ [] }
   pub three-axes-for-two : reading (recordBytes (record { extents = 2 ∷ 2 ∷ 2 ∷ []; model = model; frame = 2 }) (upTo3 ++ upTo3)) ≡ brokenAt 0
   -- writing: the bytes first, the rest of what was lent stays; odds before room
   pub writes-the-record : writeRecordEntry (headOf 2 2 2) upTo3 (replicate 83 7) ≡ record { answer = given 82; lent = stored ++ 7 ∷ [] }
@@ -76,6 +91,12 @@ addedAnswers =
       cut-short = refl;
       bytes-after-the-end = refl;
       odds-too-high = refl;
+      nan-read = refl;
+      nan-written = refl;
+      bounds-read = refl;
+      nan-set = refl;
+      off-grid-before-nan = refl;
+      number-set = refl;
       three-axes-for-two = refl;
       writes-the-record = refl;
       no-room = refl;

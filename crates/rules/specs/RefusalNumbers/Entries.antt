@@ -7,9 +7,9 @@ use mathlib.Core.Option.{Option, some, none}
 use lib.IntN.{ℤ}
 use lib.Dec.{ltb}
 use lib.ListN.{length, getD, drop, replicate}
-use lib.Ieee.{Float, nan, Format}
+use lib.Ieee.{Float, nan, isNan, Format}
 use Rattle.rules.specs.RefusalNumbers.{Refusal, Answer, given, refused, andThen}
-use Rattle.rules.specs.RefusalNumbers.{dimensionTooSmall, capacityOverflow, badModel, badBuffer, badBeams, badFrame}
+use Rattle.rules.specs.RefusalNumbers.{dimensionTooSmall, capacityOverflow, badModel, badBuffer, badBeams, badFrame, oddsNotANumber}
 use Rattle.rules.specs.TheGridAndItsBounds.{Model, Head, Grid, leastExtent, fitsCapacity, bounded, onePerCell, freshGrid, freshFrame}
 use Rattle.rules.specs.Coordinates.{Sample, flatIndex, cellContaining, sample}
 use Rattle.rules.specs.MarksAndFrames.{Mark, markAt, withCell, setOdds, openedFrame, openedStamps, openFrame}
@@ -145,6 +145,16 @@ setAnswer h x odds (given i) = record { answer = given tt; lent = setOdds (h .mo
 unfoldable pub setLogOddsEntry : Head → List ℤ → Float → List Float → Outcome (Unit {0}) (List Float)
 setLogOddsEntry h cell x odds =
     unlessRefused (headRefusal (usesOf set-log-odds) h (length odds) 0) odds (setAnswer h x odds (flatIndex (h .extents) cell))
+
+-- `set_log_odds_checked`, change request 3: "refuses NaN and otherwise does the same", with 13 "after 5"
+abbrev pub checkedAnswer : Model → Float → List Float → Answer ℕ → Outcome (Unit {0}) (List Float)
+checkedAnswer m x odds (refused r) = record { answer = refused r; lent = odds }
+checkedAnswer m x odds (given i) =
+    cond (isNan x) (record { answer = refused oddsNotANumber; lent = odds }) (record { answer = given tt; lent = setOdds m i x odds })
+
+unfoldable pub setLogOddsCheckedEntry : Head → List ℤ → Float → List Float → Outcome (Unit {0}) (List Float)
+setLogOddsCheckedEntry h cell x odds =
+    unlessRefused (headRefusal (usesOf set-log-odds) h (length odds) 0) odds (checkedAnswer (h .model) x odds (flatIndex (h .extents) cell))
 
 -- "A sample or cell read off the grid answers "nothing", not a number from this table."
 abbrev pub readAt : List Float → Answer ℕ → Option Float

@@ -77,6 +77,12 @@ enum-known-refusal-6 c = search needs
 in-record-requires-2 : tie.Need-in-record-requires-2
 in-record-requires-2 c κs = search needs
 
+enum-told-7 : tie.Need-enum-told-7
+enum-told-7 c = search needs
+
+bare-requires-7 : tie.Need-bare-requires-7
+bare-requires-7 c κs = search needs
+
 returns : tie.Need-returns
 returns c = simp (c .on-grid .ensures, c .before .before .refusal .given .1)
 
@@ -115,6 +121,9 @@ returns-11 c = simp (c .in-record .ensures, c .before .before .refusal5 .given .
 returns-12 : tie.Need-returns-12
 returns-12 c = simp (c .in-record2 .ensures, c .before .before .refusal6 .given .1)
 
+returns-13 : tie.Need-returns-13
+returns-13 c = simp (c .bare7 .ensures, c .before .enum-told7 .given .1)
+
 pub refusal-to-c-spec : {M : Type 1} → statement M
 refusal-to-c-spec =
     tie.close
@@ -143,6 +152,8 @@ refusal-to-c-spec =
     in-record-requires
     enum-known-refusal-6
     in-record-requires-2
+    enum-told-7
+    bare-requires-7
     returns
     returns-2
     returns-3
@@ -154,4 +165,5 @@ refusal-to-c-spec =
     returns-9
     returns-10
     returns-11
-    returns-12)
+    returns-12
+    returns-13)

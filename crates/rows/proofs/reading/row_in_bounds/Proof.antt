@@ -22,15 +22,8 @@ loop-holds c = (c .before .pre, refl)
 f64-at-requires : tie.Need-f64-at-requires Inv-loop μ-loop
 f64-at-requires c κs = omega arith
 
-outside-requires : tie.Need-outside-requires Inv-loop μ-loop
-outside-requires c κs = tt
-
-returns : tie.Need-returns Inv-loop μ-loop
-returns c =
-    let a = c .before .before .before .before .before .before .args in
-    let l = c .before .before .before .before .loop in
-    let off = rw (c .before .before .f64-at .ensures) at (sym (c .before .outside .ensures) ∙ c .if1 .taken) in
-    sym (l .inv .1 ∙ ap (oddsInBounds (modelOf (a .model))) (floats-step (l .left) (l .here) (now (a .bytes)) (c .before .before .before .loop-test .taken)) ∙ bounds-broken (modelOf (a .model)) _ _ off)
+within-requires : tie.Need-within-requires Inv-loop μ-loop
+within-requires c κs = tt
 
 add-here : tie.Need-add-here Inv-loop μ-loop
 add-here c = let good = c .before .before .before .before .before .before .good in omega arith
@@ -45,8 +38,15 @@ loop-again : tie.Need-loop-again Inv-loop μ-loop
 loop-again c =
     let a = c .before .before .before .before .before .before .args in
     let l = c .before .before .before .before .loop in
-    let off = rw (c .before .before .f64-at .ensures) at (sym (c .before .outside .ensures) ∙ c .if1 .left) in
+    let off = rw (c .before .before .f64-at .ensures) at (sym (c .before .within .ensures) ∙ c .if1 .taken) in
     (omega arith, l .inv .1 ∙ ap (oddsInBounds (modelOf (a .model))) (floats-step (l .left) (l .here) (now (a .bytes)) (c .before .before .before .loop-test .taken)) ∙ bounds-kept (modelOf (a .model)) _ _ off)
+
+returns : tie.Need-returns Inv-loop μ-loop
+returns c =
+    let a = c .before .before .before .before .before .before .args in
+    let l = c .before .before .before .before .loop in
+    let off = rw (c .before .before .f64-at .ensures) at (sym (c .before .within .ensures) ∙ c .if1 .left) in
+    sym (l .inv .1 ∙ ap (oddsInBounds (modelOf (a .model))) (floats-step (l .left) (l .here) (now (a .bytes)) (c .before .before .before .loop-test .taken)) ∙ bounds-broken (modelOf (a .model)) _ _ off)
 
 returns-2 : tie.Need-returns-2 Inv-loop μ-loop
 unfolding oddsInBounds floatsIn
@@ -64,10 +64,10 @@ row-in-bounds-spec =
     μ-loop
     loop-holds
     f64-at-requires
-    outside-requires
-    returns
+    within-requires
     add-here
     sub-left
     loop-less
     loop-again
+    returns
     returns-2)

@@ -21,21 +21,14 @@ abbrev μ-loop : tie.MeasureT-loop
 loop-holds : tie.Need-loop-holds Inv-loop μ-loop
 loop-holds c = (c .before .pre, refl)
 
-mul-outside : tie.Need-mul-outside Inv-loop μ-loop
-mul-outside c = search needs
+mul-within : tie.Need-mul-within Inv-loop μ-loop
+mul-within c = search needs
 
-shared-slice-read-outside : tie.Need-shared-slice-read-outside Inv-loop μ-loop
-shared-slice-read-outside c = omega arith
+shared-slice-read-within : tie.Need-shared-slice-read-within Inv-loop μ-loop
+shared-slice-read-within c = omega arith
 
-outside-requires : tie.Need-outside-requires Inv-loop μ-loop
-outside-requires c κs = tt
-
-returns : tie.Need-returns Inv-loop μ-loop
-returns c =
-    let a = c .before .before .before .before .before .before .args in
-    let l = c .before .before .before .before .loop in
-    sym (l .inv .1 ∙ ap (oddsInBounds (modelOf (a .model))) (part-step (l .left) (l .place) (now (a .odds)) (c .before .before .before .loop-test .taken) (l .inv .0))
-    ∙ bounds-broken (modelOf (a .model)) _ _ (sym (c .before .outside .ensures) ∙ c .if1 .taken))
+within-requires : tie.Need-within-requires Inv-loop μ-loop
+within-requires c κs = tt
 
 add-place : tie.Need-add-place Inv-loop μ-loop
 add-place c = let good = c .before .before .before .before .before .before .good in omega arith
@@ -52,8 +45,15 @@ loop-again c =
     let l = c .before .before .before .before .loop in (
       omega arith,
       l .inv .1 ∙ ap (oddsInBounds (modelOf (a .model))) (part-step (l .left) (l .place) (now (a .odds)) (c .before .before .before .loop-test .taken) (l .inv .0))
-          ∙ bounds-kept (modelOf (a .model)) _ _ (sym (c .before .outside .ensures) ∙ c .if1 .left),
+          ∙ bounds-kept (modelOf (a .model)) _ _ (sym (c .before .within .ensures) ∙ c .if1 .taken),
     )
+
+returns : tie.Need-returns Inv-loop μ-loop
+returns c =
+    let a = c .before .before .before .before .before .before .args in
+    let l = c .before .before .before .before .loop in
+    sym (l .inv .1 ∙ ap (oddsInBounds (modelOf (a .model))) (part-step (l .left) (l .place) (now (a .odds)) (c .before .before .before .loop-test .taken) (l .inv .0))
+    ∙ bounds-broken (modelOf (a .model)) _ _ (sym (c .before .within .ensures) ∙ c .if1 .left))
 
 returns-2 : tie.Need-returns-2 Inv-loop μ-loop
 unfolding oddsInBounds
@@ -70,12 +70,12 @@ odds-in-bounds-spec =
     Inv-loop
     μ-loop
     loop-holds
-    mul-outside
-    shared-slice-read-outside
-    outside-requires
-    returns
+    mul-within
+    shared-slice-read-within
+    within-requires
     add-place
     sub-left
     loop-less
     loop-again
+    returns
     returns-2)

@@ -1,8 +1,8 @@
 -- By the two tests.
 use mathlib.Core.Path.{refl}
 use Rattle.rules.specs.TheGridAndItsBounds.{floor}
-use Rattle.rows.proofs.reading.outside.Statement.{statement}
-use Rattle.rows.proofs.reading.outside.Tie as tie
+use Rattle.rows.proofs.reading.within.Statement.{statement}
+use Rattle.rows.proofs.reading.within.Tie as tie
 
 returns : tie.Need-returns
 unfolding floor
@@ -12,5 +12,5 @@ returns-2 : tie.Need-returns-2
 unfolding floor
 returns-2 c = rw (c .if1 .left) refl
 
-pub outside-spec : {M : Type 1} → statement M
-outside-spec = tie.close (tie.spec returns returns-2)
+pub within-spec : {M : Type 1} → statement M
+within-spec = tie.close (tie.spec returns returns-2)
