@@ -67,8 +67,8 @@ static void two_axes(void)
     tembuzar_refusal r = tembuzar_set_log_odds2(m.map, odds, CELLS, (tembuzar_cell2){3, 1}, 9.5);
     printf("set_log_odds number %u, odds %g [0, 4]\n", r.number, odds[8]);
     r = tembuzar_set_log_odds2(m.map, odds, CELLS, (tembuzar_cell2){3, -7}, 9.5);
-    printf("set_log_odds number %u, values %u, axis %lu, index %ld, extent %lu [5, 3, 1, -7, 4]\n",
-           r.number, r.values, r.axis, r.index, r.extent);
+    printf("set_log_odds number %u, values %u, axis %lu, index %ld, extent %lu, axes %u [5, 4, 1, -7, 4, 2]\n",
+           r.number, r.values, r.axis, r.index, r.extent, r.axes);
     r = tembuzar_set_log_odds_checked2(m.map, odds, CELLS, (tembuzar_cell2){3, 1}, NAN);
     printf("set_checked  number %u, values %u, odds %g [13, 0, 4]\n", r.number, r.values, odds[8]);
     r = tembuzar_set_log_odds_checked2(m.map, odds, CELLS, (tembuzar_cell2){3, 1}, INFINITY);
@@ -169,8 +169,8 @@ static void three_axes(void)
     tembuzar_refusal r = tembuzar_set_log_odds3(m.map, odds, CELLS, (tembuzar_cell3){3, 1, 2}, 9.5);
     printf("set_log_odds number %u, odds %g [0, 4]\n", r.number, odds[48]);
     r = tembuzar_set_log_odds3(m.map, odds, CELLS, (tembuzar_cell3){3, 1, -7}, 9.5);
-    printf("set_log_odds number %u, values %u, axis %lu, index %ld, extent %lu [5, 3, 2, -7, 3]\n",
-           r.number, r.values, r.axis, r.index, r.extent);
+    printf("set_log_odds number %u, values %u, axis %lu, index %ld, extent %lu, axes %u [5, 4, 2, -7, 3, 4]\n",
+           r.number, r.values, r.axis, r.index, r.extent, r.axes);
     r = tembuzar_set_log_odds_checked3(m.map, odds, CELLS, (tembuzar_cell3){3, 1, 2}, NAN);
     printf("set_checked  number %u, values %u, odds %g [13, 0, 4]\n", r.number, r.values, odds[48]);
     r = tembuzar_set_log_odds_checked3(m.map, odds, CELLS, (tembuzar_cell3){3, 1, 2}, INFINITY);

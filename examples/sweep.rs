@@ -12,7 +12,8 @@
 #[derive(Clone, Copy, Debug)]
 struct Refusal {
     number: u32,
-    values: u32,
+    values: u16,
+    axes: u16,
     axis: u64,
     index: i64,
     extent: u64,

@@ -68,7 +68,7 @@ enum tembuzar_number {
     TEMBUZAR_CAPACITY_OVERFLOW = 2,     /* an extent above 4,096, or too many cells */
     TEMBUZAR_MODEL = 3,                 /* the model is out of its bounds: see tembuzar_model */
     TEMBUZAR_BUFFER = 4,                /* odds or stamps are not one for each cell */
-    TEMBUZAR_OUT_OF_BOUNDS = 5,         /* a cell or a point is off the grid. Gives axis (the first), index, extent */
+    TEMBUZAR_OUT_OF_BOUNDS = 5,         /* a cell or a point is off the grid. Gives axis (the first), index, extent, axes */
     TEMBUZAR_NON_FINITE_COORDINATE = 6, /* a point has NaN or infinity. Gives axis (the first) */
     TEMBUZAR_RAY = 7,                   /* a beam or a line cannot be plotted. In a list, gives place and count */
     TEMBUZAR_BEAMS = 8,                 /* the flat list is no list of beams */
@@ -81,7 +81,9 @@ enum tembuzar_number {
 /* Why a call was refused. A value that the number does not give is 0. */
 typedef struct tembuzar_refusal {
     uint32_t number; /* 0: the call was answered. else one of enum tembuzar_number */
-    uint32_t values; /* how many values the refusal gives, 0 to 3 */
+    uint16_t values; /* how many values the refusal gives, 0 to 4 */
+    uint16_t axes;   /* 5: all axes that are off, 1 for x, 2 for y, 4 for z, added up; of a point, those before the first that
+                        is not finite */
     uint64_t axis;   /* 1, 5, 6: 0 for x, 1 for y, 2 for z */
     int64_t index;   /* 5: the cell's index on that axis; of a point, its coordinate cut to a whole number */
     uint64_t extent; /* 1, 5: the extent of that axis */

@@ -20,12 +20,33 @@ pub fn refusal_of(error: RustError) -> Refusal {
         }
         RustError::CapacityOverflow => Refusal { number: 2, ..none },
         RustError::OutOfBounds { axis, index, extent } => {
-            Refusal { number: 5, values: 3, axis: axis as u64, index: index as i64, extent: extent as u64, ..none }
+            Refusal { number: 5, values: 4, axis: axis as u64, index: index as i64, extent: extent as u64, ..none }
         }
         RustError::NonFiniteCoordinate { axis } => Refusal { number: 6, values: 1, axis: axis as u64, ..none },
         RustError::Ray => Refusal { number: 7, ..none },
         RustError::Other => panic!("the original gave an answer that document 01 leaves out"),
     }
+}
+
+/// The same with the set of the axes that fail, which the original does not give: a 5 has it, no other refusal does.
+fn with_axes(error: RustError, axes: impl Iterator<Item = bool>) -> Refusal {
+    let refusal = refusal_of(error);
+    match refusal.number {
+        5 => Refusal { axes: axes.enumerate().map(|(axis, fails)| u16::from(fails) << axis).sum(), ..refusal },
+        _ => refusal,
+    }
+}
+
+/// Of a cell: every axis that is off the grid.
+pub fn refusal_of_cell<const N: usize>(error: RustError, extents: [usize; N], cell: [i64; N]) -> Refusal {
+    let axes = extents.into_iter().zip(cell);
+    with_axes(error, axes.map(|(extent, index)| index < 0 || index as u64 >= extent as u64))
+}
+
+/// Of a point: every axis that is out of range, up to the first that is not finite.
+pub fn refusal_of_point<const N: usize>(error: RustError, extents: [usize; N], point: [f64; N]) -> Refusal {
+    let finite = extents.into_iter().zip(point).take_while(|(_, x)| x.is_finite());
+    with_axes(error, finite.map(|(extent, x)| !(x >= 0.0 && x < extent as f64)))
 }
 
 /// 7 in a list: the refused beam's place and the count of the beams before it.

@@ -4,7 +4,7 @@
 use oracle::generate::{Model, Rng};
 use oracle::rust::{Beam, RustMap};
 
-use crate::answers::{self, Verdict, hex, refusal_of, refused_list};
+use crate::answers::{self, Verdict, hex, refusal_of, refusal_of_cell, refusal_of_point, refused_list};
 use crate::draw;
 use crate::face::Face;
 use crate::ffi::{self, Cell, MapAnswer, Point, Refusal};
@@ -188,7 +188,7 @@ impl<'a, const N: usize> Work<'a, N> {
             false => L::mark_free(head, odds, stamps, Cell(cell)),
         };
         self.tally.marks += 1;
-        answers::mark(ours, theirs.map_err(refusal_of))
+        answers::mark(ours, theirs.map_err(|why| refusal_of_cell(why, self.pair.extents(), cell)))
     }
 
     /// Odds put into single cells, by turns with and without the check for NaN, which the original does not have: on the grid NaN is then
@@ -204,7 +204,10 @@ impl<'a, const N: usize> Work<'a, N> {
             let at = cell.map(|i| i as isize);
             let theirs = match checked && value.is_nan() && self.pair.original.log_odds_at(at).is_some() {
                 true => Err(Refusal { number: 13, ..Refusal::default() }),
-                false => self.pair.original.set_log_odds(at, value).map_err(refusal_of),
+                false => {
+                    let set = self.pair.original.set_log_odds(at, value);
+                    set.map_err(|why| refusal_of_cell(why, self.pair.extents(), cell))
+                }
             };
             let head = self.pair.head;
             let ours = match checked {
@@ -233,7 +236,8 @@ impl<'a, const N: usize> Work<'a, N> {
     pub fn cells<L: Face<N>>(&mut self) -> Verdict {
         for _ in 0..8 {
             let point = draw::point(&mut self.rng, &self.pair.extents());
-            let theirs = self.pair.original.cell_containing(point).map_err(refusal_of);
+            let theirs = self.pair.original.cell_containing(point);
+            let theirs = theirs.map_err(|why| refusal_of_point(why, self.pair.extents(), point));
             let ours = L::cell_containing(self.pair.head, Point(point));
             self.tally.cells += 1;
             answers::cell(ours, theirs).map_err(|why| format!("cell of {}\n{why}", hex(&point)))?;

@@ -8,7 +8,8 @@ use std::ffi::c_double;
 #[derive(Clone, Copy, Debug, Default, PartialEq, Eq)]
 pub struct Refusal {
     pub number: u32,
-    pub values: u32,
+    pub values: u16,
+    pub axes: u16,
     pub axis: u64,
     pub index: i64,
     pub extent: u64,

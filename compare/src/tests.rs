@@ -55,6 +55,8 @@ const LENT_FRAME: u32 = 27;
 const LENT_MODEL_BIT: u32 = 28;
 const LENT_REFUSED: u32 = 29;
 const SET_NAN: u32 = 30;
+const OCCUPIED_AXES: u32 = 31;
+const CELL_AXES: u32 = 32;
 
 /// The lowest bit of the fraction, turned over.
 fn turn(x: &mut f64) {
@@ -157,6 +159,9 @@ where
         if is(OCCUPIED_VALUES) && answer.refusal.number == 5 {
             answer.refusal.values = 2;
         }
+        if is(OCCUPIED_AXES) && answer.refusal.number == 5 {
+            answer.refusal.axes = 1 << answer.refusal.axis;
+        }
         answer
     }
     fn set_log_odds(map: Map<N>, odds: &mut [f64], cell: C<N>, value: f64) -> Refusal {
@@ -191,6 +196,9 @@ where
         let mut answer = Tembuzar::cell_containing(map, point);
         if is(CELL_INDEX) && answer.refusal.number == 5 {
             answer.refusal.index ^= 1;
+        }
+        if is(CELL_AXES) && answer.refusal.axes == 1 << (N - 1) {
+            answer.refusal.axes = 1;
         }
         answer
     }
@@ -255,12 +263,14 @@ fn wrong_beams_are_found() {
 fn wrong_cells_are_found() {
     found(FREE_CHANGED, "mark");
     found(OCCUPIED_VALUES, "mark");
+    found(OCCUPIED_AXES, "mark");
     found(SET_ODDS, "set");
     found(SET_NAN, "set");
     found(READ_FOUND, "read [");
     found(READ_ODDS_BIT, "read [");
     found(SAMPLE_GRADIENT_BIT, "sample at");
     found(CELL_INDEX, "cell of");
+    found(CELL_AXES, "cell of");
 }
 
 #[test]

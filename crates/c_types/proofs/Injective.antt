@@ -56,7 +56,7 @@ refusal-back c =
     (cond (eqb n 2) R.CapacityOverflow
     (cond (eqb n 3) R.Model
     (cond (eqb n 4) R.Buffer
-    (cond (eqb n 5) (R.OutOfBounds (c .axis) (c .index) (c .extent))
+    (cond (eqb n 5) (R.OutOfBounds (c .axis) (c .index) (c .extent) (c .axes))
     (cond (eqb n 6) (R.NonFiniteCoordinate (c .axis))
     (cond (eqb n 7) (cond (eqb (c .values) 0) R.Ray (R.RayInList (c .place) (c .count)))
     (cond (eqb n 8) R.Beams
@@ -73,7 +73,7 @@ refused-there ok not-ok (R.DimensionTooSmall axis extent) = refl
 refused-there ok not-ok R.CapacityOverflow = refl
 refused-there ok not-ok R.Model = refl
 refused-there ok not-ok R.Buffer = refl
-refused-there ok not-ok (R.OutOfBounds axis index extent) = refl
+refused-there ok not-ok (R.OutOfBounds axis index extent axes) = refl
 refused-there ok not-ok (R.NonFiniteCoordinate axis) = refl
 refused-there ok not-ok R.Ray = refl
 refused-there ok not-ok (R.RayInList place count) = refl

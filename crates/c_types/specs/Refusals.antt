@@ -9,24 +9,25 @@ use Rattle.c_types.specs.declared.refusals.CRefusal.{CRefusal}
 
 -- a number without values; 0 where the call was answered
 abbrev pub plain : ℕ → CRefusal
-plain number = record { number = number; values = 0; axis = 0; index = pos 0; extent = 0; place = 0; count = 0; bytes = 0 }
+plain number = record { number = number; values = 0; axes = 0; axis = 0; index = pos 0; extent = 0; place = 0; count = 0; bytes = 0 }
 
-abbrev pub onGrid : ℕ → ℕ → ℕ → ℤ → ℕ → CRefusal
-onGrid number values axis index extent =
-    record { number = number; values = values; axis = axis; index = index; extent = extent; place = 0; count = 0; bytes = 0 }
+abbrev pub onGrid : ℕ → ℕ → ℕ → ℤ → ℕ → ℕ → CRefusal
+onGrid number values axis index extent axes =
+    record { number = number; values = values; axes = axes; axis = axis; index = index; extent = extent; place = 0; count = 0; bytes = 0 }
 
 abbrev pub inList : ℕ → ℕ → CRefusal
-inList place count = record { number = 7; values = 2; axis = 0; index = pos 0; extent = 0; place = place; count = count; bytes = 0 }
+inList place count = record { number = 7; values = 2; axes = 0; axis = 0; index = pos 0; extent = 0; place = place; count = count; bytes = 0 }
 
 abbrev pub inRecord : ℕ → ℕ → CRefusal
-inRecord number bytes = record { number = number; values = 1; axis = 0; index = pos 0; extent = 0; place = 0; count = 0; bytes = bytes }
+inRecord number bytes = record { number = number; values = 1; axes = 0; axis = 0; index = pos 0; extent = 0; place = 0; count = 0; bytes = bytes }
 
--- 1 to 6, 8 and 9: "first axis, extent", "first axis, index, extent", "axis", or nothing
+-- 1 to 6, 8 and 9: "first axis, extent", "first axis, index, extent" and the set of the axes, "axis", or nothing
 abbrev pub gridValues : ℕ → List ℤ → CRefusal
 gridValues number [] = plain number
-gridValues number (axis ∷ []) = onGrid number 1 (natAbs axis) (pos 0) 0
-gridValues number (axis ∷ extent ∷ []) = onGrid number 2 (natAbs axis) (pos 0) (natAbs extent)
-gridValues number (axis ∷ index ∷ extent ∷ more) = onGrid number 3 (natAbs axis) index (natAbs extent)
+gridValues number (axis ∷ []) = onGrid number 1 (natAbs axis) (pos 0) 0 0
+gridValues number (axis ∷ extent ∷ []) = onGrid number 2 (natAbs axis) (pos 0) (natAbs extent) 0
+gridValues number (axis ∷ index ∷ extent ∷ []) = onGrid number 3 (natAbs axis) index (natAbs extent) 0
+gridValues number (axis ∷ index ∷ extent ∷ axes ∷ more) = onGrid number 4 (natAbs axis) index (natAbs extent) (natAbs axes)
 
 -- 7: "in a list: beam's place, from 0, and count so far"
 abbrev pub listValues : List ℤ → CRefusal

@@ -10,7 +10,9 @@ pub struct CRefusal {
     // 0 where the call was answered.
     pub number: u32,
     // How many of the values below the refusal gives; the others are 0.
-    pub values: u32,
+    pub values: u16,
+    // 5: the set of all axes that are off, axis k as bit k.
+    pub axes: u16,
     // 1, 5 and 6.
     pub axis: u64,
     // 5.
@@ -31,6 +33,7 @@ pub fn bare(number: u32) -> CRefusal
     CRefusal {
         number,
         values: 0,
+        axes: 0,
         axis: 0,
         index: 0,
         extent: 0,
@@ -41,12 +44,13 @@ pub fn bare(number: u32) -> CRefusal
 }
 
 // A refusal of the grid or of a place on it.
-fn on_grid(number: u32, values: u32, axis: u64, index: i64, extent: u64) -> CRefusal
-    ensures { λ r. ⌜ r ≡ onGrid number values axis index extent ⌝ }
+fn on_grid(number: u32, values: u16, axis: u64, index: i64, extent: u64, axes: u16) -> CRefusal
+    ensures { λ r. ⌜ r ≡ onGrid number values axis index extent axes ⌝ }
 {
     CRefusal {
         number,
         values,
+        axes,
         axis,
         index,
         extent,
@@ -63,6 +67,7 @@ fn in_list(place: u64, count: u64) -> CRefusal
     CRefusal {
         number: 7,
         values: 2,
+        axes: 0,
         axis: 0,
         index: 0,
         extent: 0,
@@ -79,6 +84,7 @@ fn in_record(number: u32, bytes: u64) -> CRefusal
     CRefusal {
         number,
         values: 1,
+        axes: 0,
         axis: 0,
         index: 0,
         extent: 0,
@@ -92,7 +98,7 @@ pub fn refusal_to_c(refusal: Refusal) -> CRefusal
     ensures { λ r. ⌜ r ≡ cRefusal (refusalOf refusal) ⌝ }
 {
     match refusal {
-        Refusal::DimensionTooSmall { axis, extent } => on_grid(1, 2, axis, 0, extent),
+        Refusal::DimensionTooSmall { axis, extent } => on_grid(1, 2, axis, 0, extent, 0),
         Refusal::CapacityOverflow => bare(2),
         Refusal::Model => bare(3),
         Refusal::Buffer => bare(4),
@@ -100,8 +106,9 @@ pub fn refusal_to_c(refusal: Refusal) -> CRefusal
             axis,
             index,
             extent,
-        } => on_grid(5, 3, axis, index, extent),
-        Refusal::NonFiniteCoordinate { axis } => on_grid(6, 1, axis, 0, 0),
+            axes,
+        } => on_grid(5, 4, axis, index, extent, axes),
+        Refusal::NonFiniteCoordinate { axis } => on_grid(6, 1, axis, 0, 0, 0),
         Refusal::Ray => bare(7),
         Refusal::RayInList { place, count } => in_list(place, count),
         Refusal::Beams => bare(8),

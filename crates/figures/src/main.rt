@@ -72,6 +72,7 @@ fn refusal(r: Refusal) {
             axis,
             index: i,
             extent,
+            axes,
         } => {
             text(b"refused 5, axis ");
             number(axis);
@@ -79,6 +80,8 @@ fn refusal(r: Refusal) {
             index(i);
             text(b", extent ");
             number(extent);
+            text(b", set ");
+            number(axes as u64);
         }
         Refusal::Ray => text(b"refused 7"),
         _ => text(b"refused otherwise"),

@@ -20,7 +20,7 @@ use Rattle.rules.specs.Floats.{zeroF, numberF, allFinite}
 use Rattle.rules.specs.RefusalNumbers.{Answer, given, andThen}
 use Rattle.rules.specs.TheGridAndItsBounds.{leastExtent, mostExtent, strides, allAtLeast, allAtMost, extentsInBounds}
 use Rattle.rules.specs.Coordinates.{StencilAxis, Sample, stencil, joined, cellsOf, offsetsOf, corners, cornerPlace, timesStrides}
-use Rattle.rules.specs.Coordinates.{sampleAt, sample, along, orOff, onGridFrom, flatIndex, valueFrom}
+use Rattle.rules.specs.Coordinates.{sampleAt, sample, along, orOff, offAxes, onGridFrom, flatIndex, valueFrom}
 use Rattle.laws.specs.Floats.Sizes.{number-value}
 use Rattle.laws.specs.CountBound.ClampedLine.{within-bounds}
 use Rattle.laws.specs.Floats.Zeros.{SameNumber}
@@ -106,18 +106,18 @@ stencil-at f (e ∷ es) (x ∷ xs) (n ∷ ns) a b h =
     (and-r (ltb n e && eq x (numberF f n)) r h))
 
 -- ---- the cell's place in the lists
-on-grid : (f : Format) (k : ℕ) (es : List ℕ) (xs : List Float) (ns : List ℕ) → T (onCell f es xs ns) → onGridFrom k es (map pos ns) ≡ given ns
+on-grid : (f : Format) (off k : ℕ) (es : List ℕ) (xs : List Float) (ns : List ℕ) → T (onCell f es xs ns) → onGridFrom off k es (map pos ns) ≡ given ns
 unfolding onCell onGridFrom along
-on-grid f k [] [] [] h = refl
-on-grid f k [] [] (n ∷ ns) h = absurd h
-on-grid f k [] (x ∷ xs) ns h = absurd h
-on-grid f k (e ∷ es) [] ns h = absurd h
-on-grid f k (e ∷ es) (x ∷ xs) [] h = absurd h
-on-grid f k (e ∷ es) (x ∷ xs) (n ∷ ns) h =
+on-grid f off k [] [] [] h = refl
+on-grid f off k [] [] (n ∷ ns) h = absurd h
+on-grid f off k [] (x ∷ xs) ns h = absurd h
+on-grid f off k (e ∷ es) [] ns h = absurd h
+on-grid f off k (e ∷ es) (x ∷ xs) [] h = absurd h
+on-grid f off k (e ∷ es) (x ∷ xs) (n ∷ ns) h =
     let r = onCell f es xs ns in
     let p : ltb n e ≡ true = lt-ltb n e (ltb→lt n e (and-l (ltb n e) (eq x (numberF f n)) (and-l (ltb n e && eq x (numberF f n)) r h))) in
-    ap₂ (λ (t : Bool) (a : Answer (List ℕ)). andThen (orOff k e (pos n) (cond t (some n) none)) (λ m. andThen a (λ ms. given (m ∷ ms)))) p
-    (on-grid f (suc k) es xs ns (and-r (ltb n e && eq x (numberF f n)) r h))
+    ap₂ (λ (t : Bool) (a : Answer (List ℕ)). andThen (orOff off k e (pos n) (cond t (some n) none)) (λ m. andThen a (λ ms. given (m ∷ ms)))) p
+    (on-grid f off (suc k) es xs ns (and-r (ltb n e && eq x (numberF f n)) r h))
 
 -- ---- the theorem
 -- finite odds at the stencil's corners, of the format
@@ -160,7 +160,7 @@ pub whole-sample : (f : Format) (es : List ℕ) (odds xs : List Float) (ns : Lis
 whole-sample f es odds xs ns b h g =
     record {
       place = timesStrides ns (strides es);
-      place-is = unfold flatIndex in ap (λ (a : Answer (List ℕ)). andThen a (λ ms. given (timesStrides ms (strides es)))) (on-grid f 0 es xs ns h);
+      place-is = unfold flatIndex in ap (λ (a : Answer (List ℕ)). andThen a (λ ms. given (timesStrides ms (strides es)))) (on-grid f (offAxes es (map pos ns)) 0 es xs ns h);
       found = sampleAt f es odds (s .axes);
       found-is = unfold sample in ap (λ (o : Option (List StencilAxis)). Option·map (sampleAt f es odds) o) (s .is);
       value-is = value;

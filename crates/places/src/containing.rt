@@ -5,6 +5,8 @@ ghost use Rattle.rules.specs.Coordinates.{within as withinRule, axisContaining,
 ghost use Rattle.types.specs.Answers.{cellAnswer2, cellAnswer3};
 ghost use Rattle.types.specs.Points.{extents2, extents3, point2, point3};
 ghost use Rattle.places.specs.Places.{containingOf};
+use crate::off::outside_axes2;
+use crate::off::outside_axes3;
 use floats::cell_of;
 use floats::is_finite;
 use types::Cell2;
@@ -33,8 +35,9 @@ pub fn within(extent: u64, x: f64) -> bool
     false
 }
 
-fn axis_containing(axis: u64, extent: u64, x: f64) -> Containing
-    ensures { λ r. ⌜ containingOf r ≡ axisContaining binary64 axis extent x ⌝ }
+// `axes` is the set of the axes that a refusal with 5 reports.
+fn axis_containing(axis: u64, extent: u64, x: f64, axes: u16) -> Containing
+    ensures { λ r. ⌜ containingOf r ≡ axisContaining binary64 axes axis extent x ⌝ }
 {
     if is_finite(x) {
         let index = cell_of(x);
@@ -45,6 +48,7 @@ fn axis_containing(axis: u64, extent: u64, x: f64) -> Containing
             axis,
             index,
             extent,
+            axes,
         });
     }
     Containing::Refused(Refusal::NonFiniteCoordinate { axis })
@@ -53,9 +57,10 @@ fn axis_containing(axis: u64, extent: u64, x: f64) -> Containing
 pub fn cell_containing2(extents: Extents2, point: Point2) -> CellAnswer2
     ensures { λ r. ⌜ cellAnswer2 r ≡ cellContaining binary64 (extents2 extents) (point2 point) ⌝ }
 {
-    match axis_containing(0, extents.x, point.x) {
+    let axes = outside_axes2(extents, point);
+    match axis_containing(0, extents.x, point.x, axes) {
         Containing::Refused(r) => CellAnswer2::Refused(r),
-        Containing::In(x) => match axis_containing(1, extents.y, point.y) {
+        Containing::In(x) => match axis_containing(1, extents.y, point.y, axes) {
             Containing::Refused(r) => CellAnswer2::Refused(r),
             Containing::In(y) => CellAnswer2::Cell(Cell2 { x, y }),
         },
@@ -65,11 +70,12 @@ pub fn cell_containing2(extents: Extents2, point: Point2) -> CellAnswer2
 pub fn cell_containing3(extents: Extents3, point: Point3) -> CellAnswer3
     ensures { λ r. ⌜ cellAnswer3 r ≡ cellContaining binary64 (extents3 extents) (point3 point) ⌝ }
 {
-    match axis_containing(0, extents.x, point.x) {
+    let axes = outside_axes3(extents, point);
+    match axis_containing(0, extents.x, point.x, axes) {
         Containing::Refused(r) => CellAnswer3::Refused(r),
-        Containing::In(x) => match axis_containing(1, extents.y, point.y) {
+        Containing::In(x) => match axis_containing(1, extents.y, point.y, axes) {
             Containing::Refused(r) => CellAnswer3::Refused(r),
-            Containing::In(y) => match axis_containing(2, extents.z, point.z) {
+            Containing::In(y) => match axis_containing(2, extents.z, point.z, axes) {
                 Containing::Refused(r) => CellAnswer3::Refused(r),
                 Containing::In(z) => CellAnswer3::Cell(Cell3 { x, y, z }),
             },

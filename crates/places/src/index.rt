@@ -9,6 +9,9 @@ ghost use Rattle.rules.specs.Coordinates.{along, orOff, flatIndex};
 ghost use Rattle.types.specs.Points.{cell2, cell3, extents2, extents3};
 ghost use Rattle.laws.specs.Checks.{InBounds};
 ghost use Rattle.places.specs.Places.{alongOf, placeOf};
+use crate::off::is_off;
+use crate::off::off_axes2;
+use crate::off::off_axes3;
 use types::Cell2;
 use types::Cell3;
 use types::Extents2;
@@ -27,26 +30,19 @@ pub enum Place {
     Refused(Refusal),
 }
 
-fn axis_at(axis: u64, index: i64, extent: u64) -> Along
-    ensures { λ r. ⌜ alongOf r ≡ orOff axis extent index (along extent index) ⌝ }
+// `axes` is the set of all axes that are off, which a refusal reports.
+fn axis_at(axis: u64, index: i64, extent: u64, axes: u16) -> Along
+    ensures { λ r. ⌜ alongOf r ≡ orOff axes axis extent index (along extent index) ⌝ }
 {
-    if index < 0 {
+    if is_off(index, extent) {
         return Along::Refused(Refusal::OutOfBounds {
             axis,
             index,
             extent,
+            axes,
         });
     }
-    let n = index as u64;
-    if n < extent {
-        Along::In(n)
-    } else {
-        Along::Refused(Refusal::OutOfBounds {
-            axis,
-            index,
-            extent,
-        })
-    }
+    Along::In(index as u64)
 }
 
 // The place of a cell whose indices were tested. Extents in bounds, so that no product wraps: the entries refuse others with 1 and 2.
@@ -62,9 +58,10 @@ pub fn translate_to_index2(extents: Extents2, cell: Cell2) -> Place
     requires { ⌜ InBounds (extents2 extents) ⌝ }
     ensures { λ r. ⌜ placeOf r ≡ flatIndex (extents2 extents) (cell2 cell) ⌝ }
 {
-    match axis_at(0, cell.x, extents.x) {
+    let axes = off_axes2(extents, cell);
+    match axis_at(0, cell.x, extents.x, axes) {
         Along::Refused(r) => Place::Refused(r),
-        Along::In(x) => match axis_at(1, cell.y, extents.y) {
+        Along::In(x) => match axis_at(1, cell.y, extents.y, axes) {
             Along::Refused(r) => Place::Refused(r),
             Along::In(y) => Place::At(place_within2(extents, x, y)),
         },
@@ -84,11 +81,12 @@ pub fn translate_to_index3(extents: Extents3, cell: Cell3) -> Place
     requires { ⌜ InBounds (extents3 extents) ⌝ }
     ensures { λ r. ⌜ placeOf r ≡ flatIndex (extents3 extents) (cell3 cell) ⌝ }
 {
-    match axis_at(0, cell.x, extents.x) {
+    let axes = off_axes3(extents, cell);
+    match axis_at(0, cell.x, extents.x, axes) {
         Along::Refused(r) => Place::Refused(r),
-        Along::In(x) => match axis_at(1, cell.y, extents.y) {
+        Along::In(x) => match axis_at(1, cell.y, extents.y, axes) {
             Along::Refused(r) => Place::Refused(r),
-            Along::In(y) => match axis_at(2, cell.z, extents.z) {
+            Along::In(y) => match axis_at(2, cell.z, extents.z, axes) {
                 Along::Refused(r) => Place::Refused(r),
                 Along::In(z) => Place::At(place_within3(extents, x, y, z)),
             },

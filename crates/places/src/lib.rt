@@ -1,6 +1,7 @@
 // Where a cell stands in the lent lists, and which cell contains a point. The original's translate_to_index and cell_containing.
 mod containing;
 mod index;
+mod off;
 
 pub use containing::cell_containing2;
 pub use containing::cell_containing3;

@@ -82,7 +82,7 @@ pub(crate) fn expect_cell(line: &[u8], c: Cursor, axes: u64, cell: Cell3) -> Cur
     y
 }
 
-// The refusals that the original has: 5, 6 and 7. It gives no others, so any other spoils the cursor.
+// The refusals that the original has: 5, 6 and 7. It gives no others, so any other spoils the cursor. Of 5 it names the first axis; the set is ours.
 pub(crate) fn expect_refusal(line: &[u8], c: Cursor, r: Refusal) -> Cursor {
     let said = expect_text(line, c, b"refused");
     match r {
@@ -90,6 +90,7 @@ pub(crate) fn expect_refusal(line: &[u8], c: Cursor, r: Refusal) -> Cursor {
             axis,
             index,
             extent,
+            axes: _,
         } => {
             let named = expect_number(line, expect_number(line, said, 5), axis);
             expect_number(line, expect_signed(line, named, index), extent)

@@ -25,35 +25,55 @@ truncatedPoint (x ∷ xs) = truncated x ∷ truncatedPoint xs
 unfoldable pub within : Format → ℕ → Float → Bool
 within f e x = le zeroF x && lt x (numberF f e)
 
+-- a set of axes as a number: the bit of the first axis, and the set of those after it
+abbrev pub withBit : Bool → ℕ → ℕ
+withBit first others = cond first 1 0 + 2 * others
+
+-- Change request 1: "`cell_containing` reports every out-of-range axis before the first non-finite one."
+unfoldable pub outsideAxes : Format → List ℕ → List Float → ℕ
+outsideAxes f [] xs = 0
+outsideAxes f (e ∷ es) [] = 0
+outsideAxes f (e ∷ es) (x ∷ xs) = cond (finite x) (withBit (not (within f e x)) (outsideAxes f es xs)) 0
+
 -- "`cell_containing`, axis by axis: not finite is 6; not in [0, extent) is 5 with the truncated index. -0.0 is inside."
-unfoldable pub axisContaining : Format → ℕ → ℕ → Float → Answer ℤ
-axisContaining f k e x =
+unfoldable pub axisContaining : Format → ℕ → ℕ → ℕ → Float → Answer ℤ
+axisContaining f off k e x =
     cond (finite x)
-    (cond (within f e x) (given (truncated x)) (refused (outOfBounds k (truncated x) e)))
+    (cond (within f e x) (given (truncated x)) (refused (outOfBounds k (truncated x) e off)))
     (refused (nonFiniteCoordinate k))
 
-unfoldable pub containingFrom : Format → ℕ → List ℕ → List Float → Answer (List ℤ)
-containingFrom f k [] xs = given []
-containingFrom f k (e ∷ es) [] = given []
-containingFrom f k (e ∷ es) (x ∷ xs) =
-    andThen (axisContaining f k e x) (λ c. andThen (containingFrom f (suc k) es xs) (λ cs. given (c ∷ cs)))
+unfoldable pub containingFrom : Format → ℕ → ℕ → List ℕ → List Float → Answer (List ℤ)
+containingFrom f off k [] xs = given []
+containingFrom f off k (e ∷ es) [] = given []
+containingFrom f off k (e ∷ es) (x ∷ xs) =
+    andThen (axisContaining f off k e x) (λ c. andThen (containingFrom f off (suc k) es xs) (λ cs. given (c ∷ cs)))
 
 unfoldable pub cellContaining : Format → List ℕ → List Float → Answer (List ℤ)
-cellContaining f es xs = containingFrom f 0 es xs
+cellContaining f es xs = containingFrom f (outsideAxes f es xs) 0 es xs
 
 -- "Flat index: each axis tested alone, then index times stride summed."
 unfoldable pub along : ℕ → ℤ → Option ℕ
 along e (pos n) = cond (ltb n e) (some n) none
 along e (negsuc n) = none
 
-abbrev pub orOff : ℕ → ℕ → ℤ → Option ℕ → Answer ℕ
-orOff k e i (some n) = given n
-orOff k e i none = refused (outOfBounds k i e)
+-- Change request 1: "The index rule must report the set of all failing axes besides the first one's index and extent."
+abbrev pub isOff : Option ℕ → Bool
+isOff (some n) = false
+isOff none = true
 
-unfoldable pub onGridFrom : ℕ → List ℕ → List ℤ → Answer (List ℕ)
-onGridFrom k [] is = given []
-onGridFrom k (e ∷ es) [] = given []
-onGridFrom k (e ∷ es) (i ∷ is) = andThen (orOff k e i (along e i)) (λ n. andThen (onGridFrom (suc k) es is) (λ ns. given (n ∷ ns)))
+unfoldable pub offAxes : List ℕ → List ℤ → ℕ
+offAxes [] is = 0
+offAxes (e ∷ es) [] = 0
+offAxes (e ∷ es) (i ∷ is) = withBit (isOff (along e i)) (offAxes es is)
+
+abbrev pub orOff : ℕ → ℕ → ℕ → ℤ → Option ℕ → Answer ℕ
+orOff off k e i (some n) = given n
+orOff off k e i none = refused (outOfBounds k i e off)
+
+unfoldable pub onGridFrom : ℕ → ℕ → List ℕ → List ℤ → Answer (List ℕ)
+onGridFrom off k [] is = given []
+onGridFrom off k (e ∷ es) [] = given []
+onGridFrom off k (e ∷ es) (i ∷ is) = andThen (orOff off k e i (along e i)) (λ n. andThen (onGridFrom off (suc k) es is) (λ ns. given (n ∷ ns)))
 
 unfoldable pub timesStrides : List ℕ → List ℕ → ℕ
 timesStrides [] ss = 0
@@ -61,7 +81,7 @@ timesStrides (n ∷ ns) [] = 0
 timesStrides (n ∷ ns) (s ∷ ss) = n * s + timesStrides ns ss
 
 unfoldable pub flatIndex : List ℕ → List ℤ → Answer ℕ
-flatIndex es is = andThen (onGridFrom 0 es is) (λ ns. given (timesStrides ns (strides es)))
+flatIndex es is = andThen (onGridFrom (offAxes es is) 0 es is) (λ ns. given (timesStrides ns (strides es)))
 
 -- "Stencil: "nothing" unless every coordinate is in [0, extent-1]. Cell by truncation, offset = coordinate - cell.
 -- If cell+1 >= extent: cell = extent-2, offset 1."

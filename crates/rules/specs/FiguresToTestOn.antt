@@ -16,7 +16,7 @@ use Rattle.rules.specs.RefusalNumbers.{outOfBounds}
 use Rattle.rules.specs.Floats.{zeroF, halfF, oneF, numberF, mag, allFinite}
 use Rattle.rules.specs.TheGridAndItsBounds.{Model, Head, Grid, cells, allAtLeast, allAtMost, fitsCapacity, extentsInBounds, stridesFrom, strides, bounded, floor}
 use Rattle.rules.specs.TheGridAndItsBounds.{onePerCell, freshGrid}
-use Rattle.rules.specs.Coordinates.{Sample, truncated, truncatedPoint, within, axisContaining, containingFrom, cellContaining, along, onGridFrom}
+use Rattle.rules.specs.Coordinates.{Sample, truncated, truncatedPoint, within, outsideAxes, axisContaining, containingFrom, cellContaining, along, offAxes, onGridFrom}
 use Rattle.rules.specs.Coordinates.{timesStrides, flatIndex, foldedAxis, stencilAxis, stencil, corners, cornerPlace, weighed, weighedWithout, valueFrom}
 use Rattle.rules.specs.Coordinates.{slopeFrom, gradientFrom, sampleAt, sample}
 use Rattle.rules.specs.TheLine.{delta, deltas, larger, primaryFrom, primaryOf, increment, stepTo, axisOf, axesOf, thresholdOf, cellsYielded}
@@ -130,15 +130,15 @@ pub record Figures : Type 0 where
   pub sample-at-a-cell : sampleOf upTo3 oneF oneF ≡ sampled (plus 3 1) oneF (plus 2 1)
   pub sample-of-nothing : sampleOf upTo3 (plus 5 4) zeroF ≡ given none
   -- "*`cell_containing` x -0.5: 5 with index 0; x 10: 5 with index 10."
-  pub containing-below : containing (minus 1 2) ≡ refused (outOfBounds 0 (pos 0) 10)
-  pub containing-on-the-face : containing (plus 10 1) ≡ refused (outOfBounds 0 (pos 10) 10)
+  pub containing-below : containing (minus 1 2) ≡ refused (outOfBounds 0 (pos 0) 10 1)
+  pub containing-on-the-face : containing (plus 10 1) ≡ refused (outOfBounds 0 (pos 10) 10 1)
   -- "*Frame 2147483646 opens 2147483647; 2147483647 clears and opens 1."
   pub opens-the-highest : opens 2147483646 ≡ record { answer = given (headOf 2 2 2147483647); lent = 9 ∷ 9 ∷ 9 ∷ 9 ∷ [] }
   pub opens-again-at-one : opens 2147483647 ≡ record { answer = given (headOf 2 2 1); lent = 0 ∷ 0 ∷ 0 ∷ 0 ∷ [] }
 
 -- Opening this one opens every definition of the rules and the library's float operations, so that the figures compute.
 unfoldable opened : ℕ
-unfolding numberF mag allFinite cells allAtLeast allAtMost fitsCapacity extentsInBounds stridesFrom strides bounded floor onePerCell freshGrid truncated truncatedPoint within axisContaining containingFrom cellContaining along onGridFrom timesStrides flatIndex foldedAxis stencilAxis stencil corners cornerPlace weighed weighedWithout valueFrom slopeFrom gradientFrom sampleAt sample delta deltas larger primaryFrom primaryOf increment stepTo axisOf axesOf thresholdOf cellsYielded lineBetween plotter otherAfter primaryAfter axisAfter axesAfter lastStep earlierStep stepOf cellsWithin lineCells stepsAt stampOf clamp limited freed markFree occupiedStep occupy markOccupied markCell markAt marked changes setOdds openedFrame openedStamps openFrame largerOf smallerOf cutTo slab slabs directions pointAt bothBeyond allWithin isInside clampAxis clampPoint clippedAt clip marksAlong marksBetween beamMarks integratedBeam integratedFrom integrated allBits flatShape beamsOf littleEndian fromLittleEndian field fieldHere extentBytes extentsIn floatBytes floatsIn rowCount rowsBytes recordBytes rowsOffset oddsInBounds endIn rowsIn frameIn modelFrom recordOf anyRecordOf rowsChecked recordSize roomFor writable firstTooSmall extentsRefusal headRefusal newEntry resetEntry beginScanEntry markEntry updateRayEntry updateScanEntry setLogOddsEntry setLogOddsCheckedEntry logOddsAtEntry sampleLogOddsEntry cellContainingEntry readRecordEntry writeRecordEntry round add sub neg mul div lt le eq ofInt toSigned toUnsigned toBits ofBits isNan
+unfolding numberF mag allFinite cells allAtLeast allAtMost fitsCapacity extentsInBounds stridesFrom strides bounded floor onePerCell freshGrid truncated truncatedPoint within outsideAxes axisContaining containingFrom cellContaining along offAxes onGridFrom timesStrides flatIndex foldedAxis stencilAxis stencil corners cornerPlace weighed weighedWithout valueFrom slopeFrom gradientFrom sampleAt sample delta deltas larger primaryFrom primaryOf increment stepTo axisOf axesOf thresholdOf cellsYielded lineBetween plotter otherAfter primaryAfter axisAfter axesAfter lastStep earlierStep stepOf cellsWithin lineCells stepsAt stampOf clamp limited freed markFree occupiedStep occupy markOccupied markCell markAt marked changes setOdds openedFrame openedStamps openFrame largerOf smallerOf cutTo slab slabs directions pointAt bothBeyond allWithin isInside clampAxis clampPoint clippedAt clip marksAlong marksBetween beamMarks integratedBeam integratedFrom integrated allBits flatShape beamsOf littleEndian fromLittleEndian field fieldHere extentBytes extentsIn floatBytes floatsIn rowCount rowsBytes recordBytes rowsOffset oddsInBounds endIn rowsIn frameIn modelFrom recordOf anyRecordOf rowsChecked recordSize roomFor writable firstTooSmall extentsRefusal headRefusal newEntry resetEntry beginScanEntry markEntry updateRayEntry updateScanEntry setLogOddsEntry setLogOddsCheckedEntry logOddsAtEntry sampleLogOddsEntry cellContainingEntry readRecordEntry writeRecordEntry round add sub neg mul div lt le eq ofInt toSigned toUnsigned toBits ofBits isNan
 opened = 0
 
 pub figures : Figures

@@ -25,9 +25,10 @@ badModel = record { number = 3; values = [] }
 abbrev pub badBuffer : Refusal
 badBuffer = record { number = 4; values = [] }
 
--- "5 OutOfBounds | a cell or point off the grid | first axis, index, extent"
-abbrev pub outOfBounds : ℕ → ℤ → ℕ → Refusal
-outOfBounds axis index extent = record { number = 5; values = pos axis ∷ index ∷ pos extent ∷ [] }
+-- "5 OutOfBounds | a cell or point off the grid | first axis, index, extent", and by change request 1 "the set of all failing axes": a number whose bit k
+-- is 1 where axis k fails
+abbrev pub outOfBounds : ℕ → ℤ → ℕ → ℕ → Refusal
+outOfBounds axis index extent axes = record { number = 5; values = pos axis ∷ index ∷ pos extent ∷ pos axes ∷ [] }
 
 -- "6 NonFiniteCoordinate | `cell_containing` meets NaN or infinity | axis"
 abbrev pub nonFiniteCoordinate : ℕ → Refusal

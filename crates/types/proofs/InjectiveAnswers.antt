@@ -38,7 +38,7 @@ refusal-back r =
     (cond (eqb n 2) R.CapacityOverflow
     (cond (eqb n 3) R.Model
     (cond (eqb n 4) R.Buffer
-    (cond (eqb n 5) (R.OutOfBounds (value r 0) (getD (r .values) 1 (pos 0)) (value r 2))
+    (cond (eqb n 5) (R.OutOfBounds (value r 0) (getD (r .values) 1 (pos 0)) (value r 2) (value r 3))
     (cond (eqb n 6) (R.NonFiniteCoordinate (value r 0))
     (cond (eqb n 7) (cond (eqb (length (r .values)) 0) R.Ray (R.RayInList (value r 0) (value r 1)))
     (cond (eqb n 8) R.Beams
@@ -52,7 +52,7 @@ refusal-there (R.DimensionTooSmall axis extent) = refl
 refusal-there R.CapacityOverflow = refl
 refusal-there R.Model = refl
 refusal-there R.Buffer = refl
-refusal-there (R.OutOfBounds axis index extent) = refl
+refusal-there (R.OutOfBounds axis index extent axes) = refl
 refusal-there (R.NonFiniteCoordinate axis) = refl
 refusal-there R.Ray = refl
 refusal-there (R.RayInList place count) = refl

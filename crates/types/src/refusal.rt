@@ -2,29 +2,46 @@
 
 pub enum Refusal {
     // An axis is shorter than the two cells that a stencil needs.
-    DimensionTooSmall { axis: u64, extent: u64 },
+    DimensionTooSmall {
+        axis: u64,
+        extent: u64,
+    },
     // An axis is too long, or there are too many cells.
     CapacityOverflow,
     // A step or the ceiling is out of its bounds.
     Model,
     // The lent odds or stamps are not one per cell.
     Buffer,
-    // A cell or point is off the grid; the first axis that is.
-    OutOfBounds { axis: u64, index: i64, extent: u64 },
+    // A cell or point is off the grid: the first axis that is, and in `axes` all that are, axis k as bit k.
+    OutOfBounds {
+        axis: u64,
+        index: i64,
+        extent: u64,
+        axes: u16,
+    },
     // A coordinate is NaN or infinite.
-    NonFiniteCoordinate { axis: u64 },
+    NonFiniteCoordinate {
+        axis: u64,
+    },
     // The beam cannot be plotted.
     Ray,
     // The same, in a list of beams: its place, and the count of the beams before it.
-    RayInList { place: u64, count: u64 },
+    RayInList {
+        place: u64,
+        count: u64,
+    },
     // The flat list is not a list of beams.
     Beams,
     // No sweep has this frame.
     Frame,
     // The map record is broken at this offset.
-    Record { offset: u64 },
+    Record {
+        offset: u64,
+    },
     // The output is shorter than the record.
-    Room { needed: u64 },
+    Room {
+        needed: u64,
+    },
     // The odds are not a number.
     Odds,
 }

@@ -6,7 +6,7 @@ use mathlib.Core.List.{List, [], _∷_}
 use lib.Ieee.{Float, binary32, binary64, round, add, sub, neg, mul, div, lt, le, eq, ofInt, toSigned, toUnsigned, ofBits, fits}
 use Rattle.rules.specs.Floats.{zeroF, halfF, numberF, mag, allFinite}
 use Rattle.rules.specs.TheGridAndItsBounds.{Model, Head, Grid, cells, allAtLeast, allAtMost, fitsCapacity, extentsInBounds, stridesFrom, strides, bounded, floor, onePerCell}
-use Rattle.rules.specs.Coordinates.{truncated, truncatedPoint, within, along, onGridFrom, timesStrides, flatIndex}
+use Rattle.rules.specs.Coordinates.{truncated, truncatedPoint, within, along, offAxes, onGridFrom, timesStrides, flatIndex}
 use Rattle.rules.specs.TheLine.{delta, deltas, larger, primaryFrom, primaryOf, increment, stepTo, axisOf, axesOf, thresholdOf, cellsYielded, lineBetween, plotter}
 use Rattle.rules.specs.TheLine.{otherAfter, primaryAfter, axisAfter, axesAfter, lastStep, earlierStep, stepOf, cellsWithin, lineCells}
 use Rattle.rules.specs.MarksAndFrames.{stepsAt, stampOf, clamp, limited, freed, markFree, occupiedStep, occupy, markOccupied, markCell, markAt, marked, changes}
@@ -61,7 +61,7 @@ unfolding cells allAtLeast allAtMost fitsCapacity extentsInBounds stridesFrom st
 openedGrid = 0
 
 unfoldable openedCells : ℕ
-unfolding truncated truncatedPoint within along onGridFrom timesStrides flatIndex
+unfolding truncated truncatedPoint within along offAxes onGridFrom timesStrides flatIndex
 openedCells = 0
 
 unfoldable openedLine : ℕ

@@ -3,19 +3,20 @@
 use Prim.Native.Nat.{ℕ}
 use mathlib.Core.List.{List, [], _∷_, _++_, map}
 use mathlib.Core.Path.{_≡_, refl}
-use lib.IntN.{pos}
+use mathlib.Core.Bool.{true}
+use lib.IntN.{pos, negsuc}
 use lib.ListN.{length, replicate, take}
 use lib.Ieee.{Float, nan, binary64}
 use Rattle.rules.specs.RefusalNumbers.{given, refused}
 use Rattle.rules.specs.RefusalNumbers.{dimensionTooSmall, capacityOverflow, badModel, badBuffer}
-use Rattle.rules.specs.RefusalNumbers.{outOfBounds, badBeams, badFrame, brokenRecord, noRoom, oddsNotANumber}
+use Rattle.rules.specs.RefusalNumbers.{outOfBounds, nonFiniteCoordinate, badBeams, badFrame, brokenRecord, noRoom, oddsNotANumber}
 use Rattle.rules.specs.Floats.{zeroF, halfF, oneF}
 use Rattle.rules.specs.TheGridAndItsBounds.{Model, Head, Grid}
-use Rattle.rules.specs.Coordinates.{within}
+use Rattle.rules.specs.Coordinates.{flatIndex, cellContaining}
 use Rattle.rules.specs.MapRecord.{recordBytes, anyRecordOf}
 use Rattle.rules.specs.RefusalNumbers.Entries.{Outcome, newEntry}
 use Rattle.rules.specs.RefusalNumbers.Entries.{updateScanEntry, readRecordEntry}
-use Rattle.rules.specs.RefusalNumbers.Entries.{writeRecordEntry, setLogOddsCheckedEntry}
+use Rattle.rules.specs.RefusalNumbers.Entries.{markEntry, writeRecordEntry, setLogOddsCheckedEntry}
 use Rattle.rules.specs.FiguresToTestOn.{plus, minus, model, headOf, fresh, upTo3, lent, scanOf, opened}
 
 -- the record of the map of 2 by 2 with odds 0, 1, 2, 3 at frame 2
@@ -61,10 +62,18 @@ pub record AddedAnswers : Type 0 where
   pub bounds-read : reading (recordBytes (headOf 2 2 2) atBounds) ≡ record { answer = given (headOf 2 2 2); lent = lent atBounds }
   -- the checked setter: NaN is refused with 13, after 5; else it sets as `set_log_odds` does
   pub nan-set : setLogOddsCheckedEntry (headOf 2 2 2) (pos 0 ∷ pos 0 ∷ []) nan upTo3 ≡ record { answer = refused oddsNotANumber; lent = upTo3 }
-  pub off-grid-before-nan : setLogOddsCheckedEntry (headOf 2 2 2) (pos 0 ∷ pos 2 ∷ []) nan upTo3 ≡ record { answer = refused (outOfBounds 1 (pos 2) 2); lent = upTo3 }
+  pub off-grid-before-nan : setLogOddsCheckedEntry (headOf 2 2 2) (pos 0 ∷ pos 2 ∷ []) nan upTo3 ≡ record { answer = refused (outOfBounds 1 (pos 2) 2 2); lent = upTo3 }
   pub number-set :
       setLogOddsCheckedEntry (headOf 2 2 2) (pos 0 ∷ pos 0 ∷ []) (plus 9 1) upTo3
       ≡ record { answer = given tt; lent = plus 4 1 ∷ oneF ∷ plus 2 1 ∷ plus 3 1 ∷ [] }
+  -- change request 1: every axis that is off, beside the first one's index and extent; of a point, those before the first that is not finite
+  pub both-axes-off :
+      markEntry binary64 true (headOf 2 2 2) (negsuc 0 ∷ pos 5 ∷ []) (fresh 2 2) ≡ record { answer = refused (outOfBounds 0 (negsuc 0) 2 3); lent = fresh 2 2 }
+  pub last-two-off : flatIndex (4 ∷ 3 ∷ 2 ∷ []) (pos 3 ∷ pos 3 ∷ pos 2 ∷ []) ≡ refused (outOfBounds 1 (pos 3) 3 6)
+  pub first-and-last-off : flatIndex (4 ∷ 3 ∷ 2 ∷ []) (pos 4 ∷ pos 0 ∷ negsuc 6 ∷ []) ≡ refused (outOfBounds 0 (pos 4) 4 5)
+  pub point-off : cellContaining binary64 (4 ∷ 3 ∷ 2 ∷ []) (plus 9 1 ∷ oneF ∷ plus 2 1 ∷ []) ≡ refused (outOfBounds 0 (pos 9) 4 5)
+  pub point-off-before-nan : cellContaining binary64 (4 ∷ 3 ∷ 2 ∷ []) (plus 9 1 ∷ nan ∷ plus 2 1 ∷ []) ≡ refused (outOfBounds 0 (pos 9) 4 1)
+  pub nan-before-point-off : cellContaining binary64 (4 ∷ 3 ∷ 2 ∷ []) (oneF ∷ nan ∷ plus 2 1 ∷ []) ≡ refused (nonFiniteCoordinate 1)
   pub three-axes-for-two : reading (recordBytes (record { extents = 2 ∷ 2 ∷ 2 ∷ []; model = model; frame = 2 }) (upTo3 ++ upTo3)) ≡ brokenAt 0
   -- writing: the bytes first, the rest of what was lent stays; odds before room
   pub writes-the-record : writeRecordEntry (headOf 2 2 2) upTo3 (replicate 83 7) ≡ record { answer = given 82; lent = stored ++ 7 ∷ [] }
@@ -97,6 +106,12 @@ addedAnswers =
       nan-set = refl;
       off-grid-before-nan = refl;
       number-set = refl;
+      both-axes-off = refl;
+      last-two-off = refl;
+      first-and-last-off = refl;
+      point-off = refl;
+      point-off-before-nan = refl;
+      nan-before-point-off = refl;
       three-axes-for-two = refl;
       writes-the-record = refl;
       no-room = refl;

@@ -70,7 +70,7 @@ pub record OriginalAnswers : Type 0 where
       ≡ record { answer = given true; lent = record { odds = zeroF ∷ minus 1 2 ∷ zeroF ∷ zeroF ∷ []; stamps = 0 ∷ 4 ∷ 0 ∷ 0 ∷ [] } }
   pub mark-left : markEntry binary64 false (headOf 2 2 2) (cell 0 0) cloudAt0 ≡ record { answer = given false; lent = cloudAt0 }
   pub mark-off-the-grid :
-      markEntry binary64 true (headOf 2 2 2) (pos 0 ∷ negsuc 0 ∷ []) (fresh 2 2) ≡ record { answer = refused (outOfBounds 1 (negsuc 0) 2); lent = fresh 2 2 }
+      markEntry binary64 true (headOf 2 2 2) (pos 0 ∷ negsuc 0 ∷ []) (fresh 2 2) ≡ record { answer = refused (outOfBounds 1 (negsuc 0) 2 2); lent = fresh 2 2 }
   -- setting clamps; reading answers the odds or nothing; reset makes fresh
   pub set-clamps : setLogOddsEntry (headOf 2 2 2) (cell 0 1) (plus 5 1) upTo3 ≡ record { answer = given tt; lent = zeroF ∷ oneF ∷ plus 4 1 ∷ plus 3 1 ∷ [] }
   pub reads-odds : logOddsAtEntry (headOf 2 2 2) (cell 0 1) upTo3 ≡ given (some (plus 2 1))

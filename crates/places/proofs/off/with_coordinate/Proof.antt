@@ -1,0 +1,25 @@
+-- By the test of the coordinate.
+use mathlib.Core.Path.{refl, sym, _∙_}
+use borrow.Author.Needs.{needs}
+use Rattle.places.proofs.off.with_coordinate.Statement.{statement}
+use Rattle.places.proofs.off.with_coordinate.Tie as tie
+
+is-finite-requires : tie.Need-is-finite-requires
+is-finite-requires c κs = search needs
+
+within-requires : tie.Need-within-requires
+within-requires c κs = search needs
+
+with-bit-requires : tie.Need-with-bit-requires
+with-bit-requires c κs = c .before .before .before .pre
+
+returns : tie.Need-returns
+returns c = simp (c .with-bit .ensures, c .before .within .ensures, sym (c .before .before .before .is-finite .ensures) ∙ c .before .before .if1 .taken)
+
+returns-2 : tie.Need-returns-2
+returns-2 c = simp (sym (c .before .is-finite .ensures) ∙ c .if1 .left)
+
+pub with-coordinate-spec : {M : Type 1} → statement M
+with-coordinate-spec =
+    tie.close
+    (tie.spec is-finite-requires within-requires with-bit-requires returns returns-2)
