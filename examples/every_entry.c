@@ -20,6 +20,22 @@ static uint32_t stamps_read[5 * 4 * 3];
 static uint8_t bytes[600];
 static const tembuzar_model model = {.occupied = 0.75, .free = -0.5, .ceiling = 4.0};
 
+static void samples_of_two_axes(tembuzar_map2 map)
+{
+    enum { CELLS = 5 * 4 };
+    const tembuzar_point2 points[] = {{3.5, 0.75}, {4.5, 0.5}, {3.0, 1.0}};
+    tembuzar_sample2 samples[] = {{7.0, {8.0, 9.0}}, {7.0, {8.0, 9.0}}, {7.0, {8.0, 9.0}}};
+    uint8_t found[] = {9, 9, 9};
+    tembuzar_refusal r = tembuzar_sample_all_log_odds2(map, odds, CELLS, (const double *)points, 6, (double *)samples, 8, found, 3);
+    printf("sample_all   number %u, values %u, found %u, value %g [14, 0, 9, 7]\n", r.number, r.values, found[0], samples[0].value);
+    r = tembuzar_sample_all_log_odds2(map, odds, CELLS, (const double *)points, 6, (double *)samples, 9, found, 3);
+    printf("sample_all   number %u, found %u %u %u, values %g %g %g [0, 1 0 1, 1.4375 7 4]\n", r.number,
+           found[0], found[1], found[2], samples[0].value, samples[1].value, samples[2].value);
+    printf("             gradients (%g, %g) (%g, %g) (%g, %g) [(-2.875, 2.25) (8, 9) (-4, -4)]\n",
+           samples[0].gradient.x, samples[0].gradient.y, samples[1].gradient.x, samples[1].gradient.y,
+           samples[2].gradient.x, samples[2].gradient.y);
+}
+
 static void record_of_two_axes(tembuzar_map2 map)
 {
     enum { CELLS = 5 * 4, BYTES = 41 + 4 * (3 + 8 * 5) + 3 };
@@ -79,6 +95,7 @@ static void two_axes(void)
     printf("sample       number %u, found %d, value %g, gradient (%g, %g) [0, 1, 1.4375, (-2.875, 2.25)]\n",
            s.refusal.number, s.found,
            s.sample.value, s.sample.gradient.x, s.sample.gradient.y);
+    samples_of_two_axes(m.map);
     tembuzar_cell_answer2 c = tembuzar_cell_containing2(m.map, (tembuzar_point2){4.75, 1.5});
     printf("containing   number %u, cell (%ld, %ld) [0, (4, 1)]\n", c.refusal.number, c.cell.x, c.cell.y);
     tembuzar_line_answer2 l = tembuzar_plotter2((tembuzar_point2){0.5, 0.5}, (tembuzar_point2){-1.5, 1.5});
@@ -117,6 +134,22 @@ static void lent_forms_of_two_axes(void)
            c.refusal.number, c.refusal.values, c.refusal.place, c.refusal.count, c.count, odds[17], odds[2]);
     c = tembuzar_update_beams2(map, odds, CELLS, stamps, CELLS, NULL, 0);
     printf("update_beams number %u, count %lu [0, 0]\n", c.refusal.number, c.count);
+}
+
+static void samples_of_three_axes(tembuzar_map3 map)
+{
+    enum { CELLS = 5 * 4 * 3 };
+    const tembuzar_point3 points[] = {{3.5, 0.75, 2.0}, {3.5, 0.75, 2.5}, {3.0, 1.0, 2.0}};
+    tembuzar_sample3 samples[] = {{6.0, {7.0, 8.0, 9.0}}, {6.0, {7.0, 8.0, 9.0}}, {6.0, {7.0, 8.0, 9.0}}};
+    uint8_t found[] = {9, 9, 9};
+    tembuzar_refusal r = tembuzar_sample_all_log_odds3(map, odds, CELLS, (const double *)points, 9, (double *)samples, 12, found, 2);
+    printf("sample_all   number %u, values %u, found %u, value %g [14, 0, 9, 6]\n", r.number, r.values, found[0], samples[0].value);
+    r = tembuzar_sample_all_log_odds3(map, odds, CELLS, (const double *)points, 9, (double *)samples, 12, found, 3);
+    printf("sample_all   number %u, found %u %u %u, values %g %g %g [0, 1 0 1, 1.5 6 4]\n", r.number,
+           found[0], found[1], found[2], samples[0].value, samples[1].value, samples[2].value);
+    printf("             gradients (%g, %g, %g) (%g, %g, %g) (%g, %g, %g) [(-3, 2, 1.5625) (7, 8, 9) (-4, -4, 4)]\n",
+           samples[0].gradient.x, samples[0].gradient.y, samples[0].gradient.z, samples[1].gradient.x, samples[1].gradient.y,
+           samples[1].gradient.z, samples[2].gradient.x, samples[2].gradient.y, samples[2].gradient.z);
 }
 
 static void record_of_three_axes(tembuzar_map3 map)
@@ -181,6 +214,7 @@ static void three_axes(void)
     printf("sample       number %u, found %d, value %g, gradient (%g, %g, %g) [0, 1, 1.5, (-3, 2, 1.5625)]\n",
            s.refusal.number, s.found,
            s.sample.value, s.sample.gradient.x, s.sample.gradient.y, s.sample.gradient.z);
+    samples_of_three_axes(m.map);
     tembuzar_cell_answer3 c = tembuzar_cell_containing3(m.map, (tembuzar_point3){4.75, 1.5, 2.25});
     printf("containing   number %u, cell (%ld, %ld, %ld) [0, (4, 1, 2)]\n", c.refusal.number, c.cell.x, c.cell.y, c.cell.z);
     tembuzar_line_answer3 l = tembuzar_plotter3((tembuzar_point3){0.5, 0.5, 2.5}, (tembuzar_point3){-1.5, 1.5, 2.5});

@@ -21,8 +21,8 @@
  *
  *   1. A list is a pointer to its first element and the number of its elements. The elements are there, aligned
  *      as C aligns their type, and not touched by another thread during the call. They are set, except that new, reset
- *      and read_record take odds and stamps that are not, and write_record an output that is not. Where the number is
- *      0, the pointer may be NULL.
+ *      and read_record take odds and stamps that are not, write_record an output, and sample_all_log_odds samples and
+ *      found. Where the number is 0, the pointer may be NULL.
  *   2. Where a call takes several lists, those that it may change (those not const) overlap no other of its lists.
  *   3. A bool is true or false, in a list of beams too.
  *   4. A pointer to a head, which open_scan takes, is not NULL. The head is there, set, aligned and untouched by others, as
@@ -75,12 +75,13 @@ enum tembuzar_number {
     TEMBUZAR_FRAME = 9,                 /* the head's frame is 0 or above TEMBUZAR_HIGHEST_FRAME */
     TEMBUZAR_RECORD = 10,               /* a map record is broken. Gives bytes: the offset of the field */
     TEMBUZAR_ROOM = 11,                 /* the output is shorter than the record. Gives bytes: how many it needs */
-    TEMBUZAR_ODDS = 13                  /* the odds are not a number */
+    TEMBUZAR_ODDS = 13,                 /* the odds are not a number */
+    TEMBUZAR_LISTS = 14                 /* points, samples and marks are not for the same number of points */
 };
 
 /* Why a call was refused. A value that the number does not give is 0. */
 typedef struct tembuzar_refusal {
-    uint32_t number; /* 0: the call was answered. else one of enum tembuzar_number */
+    uint32_t number; /* 0: the call was answered. Else: enum tembuzar_number */
     uint16_t values; /* how many values the refusal gives, 0 to 4 */
     uint16_t axes;   /* 5: all axes that are off, 1 for x, 2 for y, 4 for z, added up; of a point, those before the first that
                         is not finite */
@@ -348,6 +349,16 @@ tembuzar_odds_answer tembuzar_log_odds_at2(tembuzar_map2 map, const double *odds
 tembuzar_sample_answer2 tembuzar_sample_log_odds2(tembuzar_map2 map, const double *odds, size_t odds_count,
                                                   tembuzar_point2 point);
 
+/* The same at many points. points has 2 numbers for each point, x, y, as an array of tembuzar_point2 has; samples has 3 for
+ * each point, value, gradient x, gradient y, as an array of tembuzar_sample2 has; found has a byte for each point. Point by
+ * point, samples and found become what tembuzar_sample_log_odds2 answers: found is 1 and the sample's numbers are written, or
+ * found is 0 and the point's numbers in samples stay as they were. number is 0 where it was done.
+ * Refuses with 1, 2, 4, 14. 14: points are not 2, or samples not 3, for each byte of found. */
+tembuzar_refusal tembuzar_sample_all_log_odds2(tembuzar_map2 map, const double *odds, size_t odds_count,
+                                               const double *points, size_t points_count,
+                                               double *samples, size_t samples_count,
+                                               uint8_t *found, size_t found_count);
+
 /* The cell that contains a point. Refuses with 1, 2, and then axis by axis with 6 or 5. */
 tembuzar_cell_answer2 tembuzar_cell_containing2(tembuzar_map2 map, tembuzar_point2 point);
 
@@ -357,7 +368,8 @@ tembuzar_line_answer2 tembuzar_plotter2(tembuzar_point2 start, tembuzar_point2 e
 /* The next cell of a line: call it with each answer's line until it finds none. */
 tembuzar_step_answer2 tembuzar_step2(tembuzar_line2 line);
 
-/* ---- Functions, three axes: as for two; a beam of a list has 6 numbers, origin x, y, z, then endpoint x, y, z ---- */
+/* ---- Functions, three axes: as for two; a beam of a list has 6 numbers, origin x, y, z, then endpoint x, y, z; a point
+ *      of a list has 3, x, y, z, and its sample 4, value, gradient x, y, z ---- */
 
 tembuzar_map_answer3 tembuzar_new3(tembuzar_extents3 extents, tembuzar_model model,
                                    double *odds, size_t odds_count, uint32_t *stamps, size_t stamps_count);
@@ -401,6 +413,11 @@ tembuzar_odds_answer tembuzar_log_odds_at3(tembuzar_map3 map, const double *odds
 
 tembuzar_sample_answer3 tembuzar_sample_log_odds3(tembuzar_map3 map, const double *odds, size_t odds_count,
                                                   tembuzar_point3 point);
+
+tembuzar_refusal tembuzar_sample_all_log_odds3(tembuzar_map3 map, const double *odds, size_t odds_count,
+                                               const double *points, size_t points_count,
+                                               double *samples, size_t samples_count,
+                                               uint8_t *found, size_t found_count);
 
 tembuzar_cell_answer3 tembuzar_cell_containing3(tembuzar_map3 map, tembuzar_point3 point);
 

@@ -212,6 +212,14 @@ fn looks<L: Face<N>, const N: usize>(input: &mut Input<N>, tally: &mut Tally) ->
         answers::not_found(answer.refusal, answer.found, &[answer.sample.value], want)?;
         answers::not_found(answer.refusal, answer.found, &answer.sample.gradient, want)
     })?;
+    refused(input, tally, ("sample_all_log_odds", &[Odds]), |i, want| {
+        // The lists are for one point and for two: 14 comes last.
+        let (mut samples, mut found) = (vec![7.25; N + 1], [9; 2]);
+        let ours = L::sample_all_log_odds(i.head, &i.odds, &[0.5; N], &mut samples, &mut found);
+        answers::refusal(ours, Err(want))?;
+        let kept = samples.iter().all(|&x| x == 7.25) && found == [9; 2];
+        if kept { Ok(()) } else { Err("a refused call wrote to the samples".into()) }
+    })?;
     refused(input, tally, ("cell_containing", &[]), |i, want| {
         answers::cell(L::cell_containing(i.head, Point([f64::NAN; N])), Err(want))
     })

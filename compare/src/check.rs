@@ -8,6 +8,7 @@ use crate::answers::{self, Verdict, hex, refusal_of, refusal_of_cell, refusal_of
 use crate::draw;
 use crate::face::Face;
 use crate::ffi::{self, Cell, MapAnswer, Point, Refusal};
+use crate::many;
 use crate::pair::Pair;
 use crate::tally::Tally;
 
@@ -245,16 +246,20 @@ impl<'a, const N: usize> Work<'a, N> {
         Ok(())
     }
 
-    /// Odds between cells.
+    /// Odds between cells: at points one by one, and at all of them in one call.
     pub fn samples<L: Face<N>>(&mut self) -> Verdict {
+        let (mut points, mut answered) = (Vec::new(), Vec::new());
         for _ in 0..16 {
             let point = draw::point(&mut self.rng, &self.pair.extents());
             let theirs = self.pair.original.sample_log_odds(point);
             let ours = L::sample_log_odds(self.pair.head, self.pair.odds(), Point(point));
             self.tally.samples += 1;
             answers::sample(ours, theirs).map_err(|why| format!("sample at {}\n{why}", hex(&point)))?;
+            points.push(point);
+            answered.push(theirs);
         }
-        Ok(())
+        self.tally.listed_samples += points.len() as u64;
+        many::samples::<L, N>(self.pair.head, self.pair.odds(), &points, &answered)
     }
 
     /// The next sweep of this map.

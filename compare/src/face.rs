@@ -20,6 +20,8 @@ pub trait Face<const N: usize> {
     fn set_log_odds_checked(map: Map<N>, odds: &mut [f64], cell: Cell<N>, value: f64) -> Refusal;
     fn log_odds_at(map: Map<N>, odds: &[f64], cell: Cell<N>) -> OddsAnswer;
     fn sample_log_odds(map: Map<N>, odds: &[f64], point: Point<N>) -> SampleAnswer<N>;
+    fn sample_all_log_odds(map: Map<N>, odds: &[f64], points: &[f64], samples: &mut [f64], found: &mut [u8])
+    -> Refusal;
     fn cell_containing(map: Map<N>, point: Point<N>) -> CellAnswer<N>;
     fn plotter(start: Point<N>, end: Point<N>) -> LineAnswer<N>;
     fn step(line: Line<N>) -> StepAnswer<N>;
@@ -31,9 +33,9 @@ pub struct Tembuzar;
 /// The declarations of one number of axes, and the safe calls over them. The names are the header's.
 macro_rules! face {
     ($n:literal, $new:ident, $reset:ident, $begin_scan:ident, $open_scan:ident, $update_scan:ident, $update_beams:ident,
-     $update_ray:ident, $mark_free:ident, $mark_occupied:ident, $set_log_odds:ident,
-     $set_log_odds_checked:ident, $log_odds_at:ident,
-     $sample_log_odds:ident, $cell_containing:ident, $plotter:ident, $step:ident) => {
+     $update_ray:ident, $mark_free:ident, $mark_occupied:ident, $set_log_odds:ident, $set_log_odds_checked:ident,
+     $log_odds_at:ident, $sample_log_odds:ident, $sample_all_log_odds:ident, $cell_containing:ident, $plotter:ident,
+     $step:ident) => {
         unsafe extern "C" {
             fn $new(e: Extents<$n>, m: Model, o: *mut f64, oc: usize, s: *mut u32, sc: usize) -> MapAnswer<$n>;
             fn $reset(m: Map<$n>, o: *mut f64, oc: usize, s: *mut u32, sc: usize) -> MapAnswer<$n>;
@@ -66,6 +68,17 @@ macro_rules! face {
             fn $set_log_odds_checked(m: Map<$n>, o: *mut f64, oc: usize, c: Cell<$n>, v: f64) -> Refusal;
             fn $log_odds_at(m: Map<$n>, o: *const f64, oc: usize, c: Cell<$n>) -> OddsAnswer;
             fn $sample_log_odds(m: Map<$n>, o: *const f64, oc: usize, p: Point<$n>) -> SampleAnswer<$n>;
+            fn $sample_all_log_odds(
+                m: Map<$n>,
+                o: *const f64,
+                oc: usize,
+                p: *const f64,
+                pc: usize,
+                s: *mut f64,
+                sc: usize,
+                f: *mut u8,
+                fc: usize,
+            ) -> Refusal;
             fn $cell_containing(m: Map<$n>, p: Point<$n>) -> CellAnswer<$n>;
             fn $plotter(s: Point<$n>, e: Point<$n>) -> LineAnswer<$n>;
             fn $step(l: Line<$n>) -> StepAnswer<$n>;
@@ -113,6 +126,12 @@ macro_rules! face {
             fn sample_log_odds(m: Map<$n>, o: &[f64], p: Point<$n>) -> SampleAnswer<$n> {
                 unsafe { $sample_log_odds(m, o.as_ptr(), o.len(), p) }
             }
+            fn sample_all_log_odds(m: Map<$n>, o: &[f64], p: &[f64], s: &mut [f64], f: &mut [u8]) -> Refusal {
+                let (oc, pc, sc, fc) = (o.len(), p.len(), s.len(), f.len());
+                unsafe {
+                    $sample_all_log_odds(m, o.as_ptr(), oc, p.as_ptr(), pc, s.as_mut_ptr(), sc, f.as_mut_ptr(), fc)
+                }
+            }
             fn cell_containing(m: Map<$n>, p: Point<$n>) -> CellAnswer<$n> {
                 unsafe { $cell_containing(m, p) }
             }
@@ -141,6 +160,7 @@ face!(
     tembuzar_set_log_odds_checked2,
     tembuzar_log_odds_at2,
     tembuzar_sample_log_odds2,
+    tembuzar_sample_all_log_odds2,
     tembuzar_cell_containing2,
     tembuzar_plotter2,
     tembuzar_step2
@@ -160,6 +180,7 @@ face!(
     tembuzar_set_log_odds_checked3,
     tembuzar_log_odds_at3,
     tembuzar_sample_log_odds3,
+    tembuzar_sample_all_log_odds3,
     tembuzar_cell_containing3,
     tembuzar_plotter3,
     tembuzar_step3

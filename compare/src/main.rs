@@ -8,6 +8,7 @@ mod check;
 mod draw;
 mod face;
 mod ffi;
+mod many;
 mod pair;
 mod records;
 mod round;
@@ -15,6 +16,8 @@ mod tally;
 #[cfg(test)]
 mod tests;
 mod time;
+#[cfg(test)]
+mod wrong;
 
 use std::process::ExitCode;
 

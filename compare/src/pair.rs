@@ -129,3 +129,31 @@ impl<const N: usize> Pair<N> {
         }
     }
 }
+
+#[cfg(test)]
+mod tests {
+    use super::*;
+
+    /// Two NaNs are equal; two zeros are not.
+    #[test]
+    fn floats_by_their_bits() {
+        let other_nan = f64::from_bits(0x7ff0_0000_0000_0001);
+        assert_eq!(first_unlike(&[1.0, f64::NAN], &[1.0, other_nan]), None);
+        assert_eq!(first_unlike(&[1.0, 0.0], &[1.0, -0.0]), Some(1));
+        assert_eq!(first_unlike(&[1.0, f64::NAN], &[1.0, 0.0]), Some(1));
+    }
+
+    /// A write beside a lent list shows.
+    #[test]
+    fn borders_are_watched() {
+        let mut rng = crate::draw::round_numbers(5, 5);
+        let state = crate::draw::state(&mut rng, [3, 4]);
+        let same = |beside: usize| -> Verdict {
+            let mut pair = Pair::of(&state);
+            pair.write_beside(beside);
+            pair.same()
+        };
+        assert!(Pair::of(&state).same().is_ok());
+        assert!((0..4).all(|beside| same(beside).is_err()));
+    }
+}

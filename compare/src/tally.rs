@@ -16,6 +16,7 @@ pub struct Tally {
     pub reads: u64,
     pub cells: u64,
     pub samples: u64,
+    pub listed_samples: u64,
     pub opens: u64,
     pub lent_opens: u64,
     pub resets: u64,
@@ -48,6 +49,7 @@ impl Tally {
         line("reads", self.reads, "");
         line("cells of points", self.cells, "");
         line("samples", self.samples, "");
+        line("  again, many in one call", self.listed_samples, "");
         line("opens", self.opens, &format!("({} in a lent head)", self.lent_opens));
         line("resets", self.resets, "");
         line("new maps", self.news, "");

@@ -1,62 +1,16 @@
 //! The comparison is able to fail: libraries with one thing wrong, each of which must be found.
 
-use std::cell::Cell;
-
-use crate::answers::Verdict;
 use crate::face::{Face, Tembuzar};
 use crate::ffi::{
     Beam, Cell as C, CellAnswer, CountAnswer, Extents, Line, LineAnswer, Map, MapAnswer, MarkAnswer, Model, OddsAnswer,
     Point, Refusal, SampleAnswer, StepAnswer,
 };
-use crate::pair::{Pair, first_unlike};
 use crate::round::round;
 use crate::tally::Tally;
+use crate::wrong::*;
 
 /// Tembuzar but for one thing, `WRONG`.
 struct Wrong;
-
-thread_local! {
-    static WRONG: Cell<u32> = const { Cell::new(NOTHING) };
-}
-
-/// Whether this is the thing that is wrong.
-fn is(what: u32) -> bool {
-    WRONG.get() == what
-}
-
-const NOTHING: u32 = 0;
-const RAY_ODDS_BIT: u32 = 1;
-const RAY_NUMBER: u32 = 2;
-const LIST_ODDS_BIT: u32 = 3;
-const LIST_STAMP: u32 = 4;
-const LIST_COUNT: u32 = 5;
-const LIST_PLACE: u32 = 6;
-const LIST_COUNT_SO_FAR: u32 = 7;
-const LIST_LAST_BEAM: u32 = 8;
-const FREE_CHANGED: u32 = 9;
-const OCCUPIED_VALUES: u32 = 10;
-const SET_ODDS: u32 = 11;
-const READ_FOUND: u32 = 12;
-const SAMPLE_GRADIENT_BIT: u32 = 13;
-const CELL_INDEX: u32 = 14;
-const OPEN_FRAME: u32 = 15;
-const OPEN_BUFFER: u32 = 16;
-const RESET_ZERO_SIGN: u32 = 17;
-const NEW_STAMP: u32 = 18;
-const LINE_THRESHOLD_BIT: u32 = 19;
-const STEP_REMAINING: u32 = 20;
-const READ_ODDS_BIT: u32 = 21;
-const NEW_MODEL: u32 = 22;
-const STRUCTS_ODDS_BIT: u32 = 23;
-const STRUCTS_PLACE: u32 = 24;
-const STRUCTS_LAST_BEAM: u32 = 25;
-const STRUCTS_HIT: u32 = 26;
-const LENT_FRAME: u32 = 27;
-const LENT_MODEL_BIT: u32 = 28;
-const LENT_REFUSED: u32 = 29;
-const SET_NAN: u32 = 30;
-const OCCUPIED_AXES: u32 = 31;
-const CELL_AXES: u32 = 32;
 
 /// The lowest bit of the fraction, turned over.
 fn turn(x: &mut f64) {
@@ -192,6 +146,26 @@ where
         }
         answer
     }
+    fn sample_all_log_odds(
+        map: Map<N>,
+        odds: &[f64],
+        points: &[f64],
+        samples: &mut [f64],
+        found: &mut [u8],
+    ) -> Refusal {
+        let refusal = Tembuzar::sample_all_log_odds(map, odds, points, samples, found);
+        let nothing = found.iter().position(|&mark| mark == 0);
+        match WRONG.get() {
+            MANY_LAST_BIT if refusal.number == 0 && found.last() == Some(&1) => {
+                turn(&mut samples[found.len() * (N + 1) - 1])
+            }
+            MANY_CLEARED => nothing.map_or((), |place| samples[place * (N + 1)] = 0.0),
+            MANY_MARK => nothing.map_or((), |place| found[place] = 1),
+            MANY_UNEQUAL if refusal.number == 14 => found.fill(0),
+            _ => (),
+        }
+        refusal
+    }
     fn cell_containing(map: Map<N>, point: Point<N>) -> CellAnswer<N> {
         let mut answer = Tembuzar::cell_containing(map, point);
         if is(CELL_INDEX) && answer.refusal.number == 5 {
@@ -271,6 +245,10 @@ fn wrong_cells_are_found() {
     found(SAMPLE_GRADIENT_BIT, "sample at");
     found(CELL_INDEX, "cell of");
     found(CELL_AXES, "cell of");
+    found(MANY_LAST_BIT, "sample in one call");
+    found(MANY_CLEARED, "sample in one call");
+    found(MANY_MARK, "sample in one call");
+    found(MANY_UNEQUAL, "list 0 short");
 }
 
 #[test]
@@ -285,27 +263,4 @@ fn wrong_maps_and_lines_are_found() {
     found(NEW_MODEL, "new\n");
     found(LINE_THRESHOLD_BIT, "line ");
     found(STEP_REMAINING, "after step");
-}
-
-/// Two NaNs are equal; two zeros are not.
-#[test]
-fn floats_by_their_bits() {
-    let other_nan = f64::from_bits(0x7ff0_0000_0000_0001);
-    assert_eq!(first_unlike(&[1.0, f64::NAN], &[1.0, other_nan]), None);
-    assert_eq!(first_unlike(&[1.0, 0.0], &[1.0, -0.0]), Some(1));
-    assert_eq!(first_unlike(&[1.0, f64::NAN], &[1.0, 0.0]), Some(1));
-}
-
-/// A write beside a lent list shows.
-#[test]
-fn borders_are_watched() {
-    let mut rng = crate::draw::round_numbers(5, 5);
-    let state = crate::draw::state(&mut rng, [3, 4]);
-    let same = |beside: usize| -> Verdict {
-        let mut pair = Pair::of(&state);
-        pair.write_beside(beside);
-        pair.same()
-    };
-    assert!(Pair::of(&state).same().is_ok());
-    assert!((0..4).all(|beside| same(beside).is_err()));
 }

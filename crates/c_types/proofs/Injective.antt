@@ -62,7 +62,8 @@ refusal-back c =
     (cond (eqb n 8) R.Beams
     (cond (eqb n 9) R.Frame
     (cond (eqb n 10) (R.Record (c .bytes))
-    (cond (eqb n 11) (R.Room (c .bytes)) R.Odds))))))))))
+    (cond (eqb n 11) (R.Room (c .bytes))
+    (cond (eqb n 13) R.Odds R.Lists)))))))))))
 
 -- an answer where the number is 0, else the refusal
 abbrev read-back : {T : Type 0} → T → (Refusal.Refusal → T) → CRefusal → T
@@ -82,6 +83,7 @@ refused-there ok not-ok R.Frame = refl
 refused-there ok not-ok (R.Record offset) = refl
 refused-there ok not-ok (R.Room needed) = refl
 refused-there ok not-ok R.Odds = refl
+refused-there ok not-ok R.Lists = refl
 
 abbrev mark-back : CMarkAnswer → Mark.MarkAnswer
 mark-back c = read-back (Mark.the-variants.Changed (c .changed)) Mark.the-variants.Refused (c .refusal)

@@ -116,5 +116,6 @@ pub fn refusal_to_c(refusal: Refusal) -> CRefusal
         Refusal::Record { offset } => in_record(10, offset),
         Refusal::Room { needed } => in_record(11, needed),
         Refusal::Odds => bare(13),
+        Refusal::Lists => bare(14),
     }
 }

@@ -1,5 +1,5 @@
 -- Theorems about the rules, of every format and any number of axes. `CountBound`, `WholeSample`, `DemandThree` and `MapRecord` are laws of
--- document 01, `FloorCost`, `HandCorrections`, `CheckedSet` and `OffAxes` of change requests 9, 10, 3 and 1, each with its statement, and the steps of its proof in the folder of its name. The others are what the code's proofs share.
+-- document 01, `FloorCost`, `HandCorrections`, `CheckedSet`, `OffAxes` and `ManySamples` of change requests 9, 10, 3, 1 and 4, each with its statement, and the steps of its proof in the folder of its name. The others are what the code's proofs share.
 pub mod Floats
 pub mod CountBound
 pub mod WholeSample
@@ -8,6 +8,7 @@ pub mod FloorCost
 pub mod HandCorrections
 pub mod CheckedSet
 pub mod OffAxes
+pub mod ManySamples
 pub mod MapRecord
 pub mod Checks
 pub mod ModelBounds

@@ -8,3 +8,5 @@ pub mod MarksAndFrames
 pub mod OneBeam
 pub mod MapRecord
 pub mod FiguresToTestOn
+-- Document 02: a file for each request that adds an entry.
+pub mod ManySamples

@@ -61,6 +61,10 @@ noRoom needed = record { number = 11; values = pos needed ∷ [] }
 abbrev pub oddsNotANumber : Refusal
 oddsNotANumber = record { number = 13; values = [] }
 
+-- document 02, request 4: "14, lists of unequal count"
+abbrev pub unequalLists : Refusal
+unequalLists = record { number = 14; values = [] }
+
 -- an answer: what was asked for, or the refusal
 pub data Answer (A : Type 0) : Type 0 where
   given : A → Answer A

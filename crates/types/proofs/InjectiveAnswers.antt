@@ -44,7 +44,8 @@ refusal-back r =
     (cond (eqb n 8) R.Beams
     (cond (eqb n 9) R.Frame
     (cond (eqb n 10) (R.Record (value r 0))
-    (cond (eqb n 11) (R.Room (value r 0)) R.Odds))))))))))
+    (cond (eqb n 11) (R.Room (value r 0))
+    (cond (eqb n 13) R.Odds R.Lists)))))))))))
 
 pub refusal-there : (r : Refusal.Refusal) → refusal-back (refusalOf r) ≡ r
 unfolding refusal-back value
@@ -61,6 +62,7 @@ refusal-there R.Frame = refl
 refusal-there (R.Record offset) = refl
 refusal-there (R.Room needed) = refl
 refusal-there R.Odds = refl
+refusal-there R.Lists = refl
 
 pub refusal-injective : Injective refusalOf
 refusal-injective = of-back refusalOf refusal-back refusal-there

@@ -2,7 +2,7 @@
 use Rattle.rules.specs.RefusalNumbers as Paper
 use Rattle.types.specs.declared.refusal.Refusal as Code
 use Rattle.types.specs.declared.refusal.Refusal.the-variants.{DimensionTooSmall, CapacityOverflow, Model, Buffer, OutOfBounds}
-use Rattle.types.specs.declared.refusal.Refusal.the-variants.{NonFiniteCoordinate, Ray, RayInList, Beams, Frame, Record, Room, Odds}
+use Rattle.types.specs.declared.refusal.Refusal.the-variants.{NonFiniteCoordinate, Ray, RayInList, Beams, Frame, Record, Room, Odds, Lists}
 
 abbrev pub refusalOf : Code.Refusal → Paper.Refusal
 refusalOf (DimensionTooSmall axis extent) = Paper.dimensionTooSmall axis extent
@@ -18,3 +18,4 @@ refusalOf Frame = Paper.badFrame
 refusalOf (Record offset) = Paper.brokenRecord offset
 refusalOf (Room needed) = Paper.noRoom needed
 refusalOf Odds = Paper.oddsNotANumber
+refusalOf Lists = Paper.unequalLists

@@ -44,4 +44,6 @@ pub enum Refusal {
     },
     // The odds are not a number.
     Odds,
+    // The lists of points, samples and marks are not for the same number of points.
+    Lists,
 }

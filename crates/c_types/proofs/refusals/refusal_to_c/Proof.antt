@@ -83,6 +83,12 @@ enum-told-7 c = search needs
 bare-requires-7 : tie.Need-bare-requires-7
 bare-requires-7 c κs = search needs
 
+enum-told-8 : tie.Need-enum-told-8
+enum-told-8 c = search needs
+
+bare-requires-8 : tie.Need-bare-requires-8
+bare-requires-8 c κs = search needs
+
 returns : tie.Need-returns
 returns c = simp (c .on-grid .ensures, c .before .before .refusal .given .1)
 
@@ -124,6 +130,9 @@ returns-12 c = simp (c .in-record2 .ensures, c .before .before .refusal6 .given 
 returns-13 : tie.Need-returns-13
 returns-13 c = simp (c .bare7 .ensures, c .before .enum-told7 .given .1)
 
+returns-14 : tie.Need-returns-14
+returns-14 c = simp (c .bare8 .ensures, c .before .enum-told8 .given .1)
+
 pub refusal-to-c-spec : {M : Type 1} → statement M
 refusal-to-c-spec =
     tie.close
@@ -154,6 +163,8 @@ refusal-to-c-spec =
     in-record-requires-2
     enum-told-7
     bare-requires-7
+    enum-told-8
+    bare-requires-8
     returns
     returns-2
     returns-3
@@ -166,4 +177,5 @@ refusal-to-c-spec =
     returns-10
     returns-11
     returns-12
-    returns-13)
+    returns-13
+    returns-14)
