@@ -152,6 +152,29 @@ static void samples_of_three_axes(tembuzar_map3 map)
            samples[1].gradient.z, samples[2].gradient.x, samples[2].gradient.y, samples[2].gradient.z);
 }
 
+static void sweep_file_of_two_axes(void)
+{
+    enum { CELLS = 5 * 4, BYTES = 9 + 2 * 36 + 7 };
+    tembuzar_map2 map = tembuzar_new2((tembuzar_extents2){5, 4}, model, odds, CELLS, stamps, CELLS).map;
+    const double beams[] = {4.5, 3.5, 2.25, 3.25, 0.5, 0.5, 3.5, 0.5};
+    const uint8_t hits[] = {1, 0};
+    memset(bytes, 170, sizeof bytes);
+    tembuzar_count_answer n = tembuzar_write_sweep2(40000, beams, 7, hits, 2, bytes, sizeof bytes);
+    printf("write_sweep  number %u, values %u, first byte %u [8, 0, 170]\n", n.refusal.number, n.refusal.values, bytes[0]);
+    n = tembuzar_write_sweep2(40000, beams, 8, hits, 2, bytes, BYTES - 1);
+    printf("write_sweep  number %u, values %u, bytes %lu, first byte %u [11, 1, 88, 170]\n",
+           n.refusal.number, n.refusal.values, n.refusal.bytes, bytes[0]);
+    n = tembuzar_write_sweep2(40000, beams, 8, hits, 2, bytes, sizeof bytes);
+    printf("write_sweep  number %u, count %lu, axes %u, station %u %u, hits %u %u, beams %u, next %u [0, 88, 2, 64 156, 1 0, 2, 170]\n",
+           n.refusal.number, n.count, bytes[3], bytes[7], bytes[8], bytes[44], bytes[80], bytes[84], bytes[BYTES]);
+    tembuzar_sweep_answer s = tembuzar_update_sweep2(map, odds, CELLS, stamps, CELLS, bytes, BYTES + 1);
+    printf("update_sweep number %u, values %u, bytes %lu, station %u, count %lu, odds %g [12, 1, 88, 0, 0, 0]\n",
+           s.refusal.number, s.refusal.values, s.refusal.bytes, s.station, s.count, odds[17]);
+    s = tembuzar_update_sweep2(map, odds, CELLS, stamps, CELLS, bytes, BYTES);
+    printf("update_sweep number %u, station %u, count %lu, odds %g %g %g %g [0, 40000, 7, 0.75 -0.5 -0.5 -0.5]\n",
+           s.refusal.number, s.station, s.count, odds[17], odds[18], odds[19], odds[2]);
+}
+
 static void record_of_three_axes(tembuzar_map3 map)
 {
     enum { CELLS = 5 * 4 * 3, BYTES = 43 + 4 * 3 * (3 + 8 * 5) + 3 };
@@ -255,13 +278,37 @@ static void lent_forms_of_three_axes(void)
     printf("update_beams number %u, count %lu [0, 0]\n", c.refusal.number, c.count);
 }
 
+static void sweep_file_of_three_axes(void)
+{
+    enum { CELLS = 5 * 4 * 3, BYTES = 9 + 2 * 52 + 7 };
+    tembuzar_map3 map = tembuzar_new3((tembuzar_extents3){5, 4, 3}, model, odds, CELLS, stamps, CELLS).map;
+    const double beams[] = {4.5, 3.5, 2.5, 2.25, 3.25, 2.75, 0.5, 0.5, 1.5, 3.5, 0.5, 1.5};
+    const uint8_t hits[] = {1, 0};
+    memset(bytes, 170, sizeof bytes);
+    tembuzar_count_answer n = tembuzar_write_sweep3(40000, beams, 12, hits, 2, bytes, BYTES - 1);
+    printf("write_sweep  number %u, values %u, bytes %lu, first byte %u [11, 1, 120, 170]\n",
+           n.refusal.number, n.refusal.values, n.refusal.bytes, bytes[0]);
+    n = tembuzar_write_sweep3(40000, beams, 12, hits, 2, bytes, sizeof bytes);
+    printf("write_sweep  number %u, count %lu, axes %u, station %u %u, hits %u %u, beams %u, next %u [0, 120, 3, 64 156, 1 0, 2, 170]\n",
+           n.refusal.number, n.count, bytes[3], bytes[7], bytes[8], bytes[60], bytes[112], bytes[116], bytes[BYTES]);
+    tembuzar_sweep_answer s = tembuzar_update_sweep3(map, odds, CELLS, stamps, CELLS, bytes, BYTES);
+    printf("update_sweep number %u, station %u, count %lu, odds %g %g %g %g [0, 40000, 7, 0.75 -0.5 -0.5 -0.5]\n",
+           s.refusal.number, s.station, s.count, odds[57], odds[58], odds[59], odds[22]);
+    bytes[112] = 2;
+    s = tembuzar_update_sweep3(map, odds, CELLS, stamps, CELLS, bytes, BYTES);
+    printf("update_sweep number %u, values %u, bytes %lu, station %u, count %lu [12, 1, 61, 0, 0]\n",
+           s.refusal.number, s.refusal.values, s.refusal.bytes, s.station, s.count);
+}
+
 int main(void)
 {
     printf("two axes\n");
     two_axes();
     lent_forms_of_two_axes();
+    sweep_file_of_two_axes();
     printf("three axes\n");
     three_axes();
     lent_forms_of_three_axes();
+    sweep_file_of_three_axes();
     return 0;
 }

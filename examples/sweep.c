@@ -45,7 +45,7 @@ static void picture(void)
 static void say(const char *call, tembuzar_refusal r)
 {
     static const char *const names[] = {"answered", "DimensionTooSmall", "CapacityOverflow", "Model", "Buffer",
-                                        "OutOfBounds", "NonFiniteCoordinate", "Ray", "Beams", "Frame", "Record", "Room"};
+                                        "OutOfBounds", "NonFiniteCoordinate", "Ray", "Beams", "Frame", "Record", "Room", "Sweep"};
     printf("%-34s %2u %s", call, (unsigned)r.number, names[r.number]);
     if (r.number == 1 || r.number == 5 || r.number == 6)
         printf(", axis %llu", (unsigned long long)r.axis);

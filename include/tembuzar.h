@@ -21,8 +21,8 @@
  *
  *   1. A list is a pointer to its first element and the number of its elements. The elements are there, aligned
  *      as C aligns their type, and not touched by another thread during the call. They are set, except that new, reset
- *      and read_record take odds and stamps that are not, write_record an output, and sample_all_log_odds samples and
- *      found. Where the number is 0, the pointer may be NULL.
+ *      and read_record take odds and stamps that are not, write_record and write_sweep an output, and sample_all_log_odds
+ *      samples and found. Where the number is 0, the pointer may be NULL.
  *   2. Where a call takes several lists, those that it may change (those not const) overlap no other of its lists.
  *   3. A bool is true or false, in a list of beams too.
  *   4. A pointer to a head, which open_scan takes, is not NULL. The head is there, set, aligned and untouched by others, as
@@ -36,7 +36,7 @@
  *
  *   Every answer holds a tembuzar_refusal. Its number is 0 where the call was answered. Else it is one of the
  *   numbers below, what was asked for is 0 throughout, and the lists and the head lent to the call are as they were; with
- *   one exception: a list of beams refused with 7 at one beam keeps the votes of the beams before it.
+ *   one exception: a list of beams, or a sweep file, refused with 7 at one beam keeps the votes of the beams before it.
  *   A call that several refusals fit gives the first in the order that the call's comment lists.
  *
  *   Points are in cells: the cell (0, 0) goes from 0.0 up to 1.0 on both axes. Floats are IEEE 754 doubles.
@@ -74,7 +74,8 @@ enum tembuzar_number {
     TEMBUZAR_BEAMS = 8,                 /* the flat list is no list of beams */
     TEMBUZAR_FRAME = 9,                 /* the head's frame is 0 or above TEMBUZAR_HIGHEST_FRAME */
     TEMBUZAR_RECORD = 10,               /* a map record is broken. Gives bytes: the offset of the field */
-    TEMBUZAR_ROOM = 11,                 /* the output is shorter than the record. Gives bytes: how many it needs */
+    TEMBUZAR_ROOM = 11,                 /* the output is shorter than the record or file. Gives bytes: how many it needs */
+    TEMBUZAR_SWEEP = 12,                /* a sweep file is broken. Gives bytes: the offset of the field */
     TEMBUZAR_ODDS = 13,                 /* the odds are not a number */
     TEMBUZAR_LISTS = 14                 /* points, samples and marks are not for the same number of points */
 };
@@ -90,7 +91,7 @@ typedef struct tembuzar_refusal {
     uint64_t extent; /* 1, 5: the extent of that axis */
     uint64_t place;  /* 7 in a list: the place of the refused beam, from 0 */
     uint64_t count;  /* 7 in a list: the count of the beams before it */
-    uint64_t bytes;  /* 10: the offset of the field in the record. 11: how many bytes the record has */
+    uint64_t bytes;  /* 10, 12: the offset of the field in the record or file. 11: how many bytes it has */
 } tembuzar_refusal;
 
 /* ---- Maps ---- */
@@ -208,11 +209,18 @@ typedef struct tembuzar_mark_answer {
     bool changed;
 } tembuzar_mark_answer;
 
-/* How many marks changed a cell; of a record, how many bytes were written. */
+/* How many marks changed a cell; of a record or a sweep file, how many bytes were written. */
 typedef struct tembuzar_count_answer {
     tembuzar_refusal refusal;
     uint64_t count;
 } tembuzar_count_answer;
+
+/* The number of the station that mailed a sweep, and how many marks changed a cell. */
+typedef struct tembuzar_sweep_answer {
+    tembuzar_refusal refusal;
+    uint16_t station;
+    uint64_t count;
+} tembuzar_sweep_answer;
 
 /* One cell's odds; not found off the grid, which is no refusal. */
 typedef struct tembuzar_odds_answer {
@@ -461,6 +469,45 @@ tembuzar_map_answer3 tembuzar_read_record3(const uint8_t *bytes, size_t bytes_co
 
 tembuzar_count_answer tembuzar_write_record3(tembuzar_map3 map, const double *odds, size_t odds_count,
                                              uint8_t *out, size_t out_count);
+
+/* ---- Sweep files: the beams of one sweep as bytes, as a station mails them ----
+ *
+ * A sweep file is fields as a record's are: a tag, 1 byte, the length of its data, 2 bytes, and its data, all numbers
+ * little-endian. In this order:
+ *
+ *   tag 1: the number of axes, 1 byte, 2 or 3
+ *   tag 2: the station's number, 2 bytes
+ *   tag 3: a beam: origin, then endpoint, 8 bytes a coordinate, and a byte, 1 for a return and 0 for a beam that ran
+ *          out; 33 bytes for two axes and 49 for three. One such field for every beam, in order
+ *   tag 4: how many beams there are, 4 bytes; the end
+ *
+ * So there are 9 bytes before the beams, 36 for each beam of two axes and 52 for each of three, and 7 at the end.
+ * Coordinates may be NaN or infinite: a NaN is written as one and the same NaN. */
+
+/* The beams of a sweep file, in order, as tembuzar_update_scan2 does with the same beams. The whole file is tried before
+ * the first beam. Answers the station's number and the count of the whole file.
+ * Refuses with 1, 2, 3, 4, 9, 12, 7; with 7 at one beam, the beams before it stay, and the refusal gives the beam's place
+ * and their count. 12: a field is cut short or absent, has another tag or length, the axes are not the map's, a beam's
+ * byte is neither 0 nor 1, the count is not that of the beams, or something follows the end; bytes is the offset of the
+ * first such field, or of what follows. */
+tembuzar_sweep_answer tembuzar_update_sweep2(tembuzar_map2 map,
+                                             double *odds, size_t odds_count, uint32_t *stamps, size_t stamps_count,
+                                             const uint8_t *bytes, size_t bytes_count);
+
+/* The sweep file of a flat list of beams, as tembuzar_update_scan2 takes it, from the first byte of out on; what follows
+ * it in out stays. The count is of its bytes. Refuses with 8, 11. 8: the list is none of beams, or has more than
+ * 4,294,967,295 of them. 11: out is shorter than the file; bytes is how many the file has, so that a call with 0 bytes of
+ * out asks for the size. */
+tembuzar_count_answer tembuzar_write_sweep2(uint16_t station, const double *numbers, size_t numbers_count,
+                                            const uint8_t *hits, size_t hits_count, uint8_t *out, size_t out_count);
+
+/* The same for three axes. */
+tembuzar_sweep_answer tembuzar_update_sweep3(tembuzar_map3 map,
+                                             double *odds, size_t odds_count, uint32_t *stamps, size_t stamps_count,
+                                             const uint8_t *bytes, size_t bytes_count);
+
+tembuzar_count_answer tembuzar_write_sweep3(uint16_t station, const double *numbers, size_t numbers_count,
+                                            const uint8_t *hits, size_t hits_count, uint8_t *out, size_t out_count);
 
 #ifdef __cplusplus
 }

@@ -6,11 +6,12 @@ use mathlib.Core.Bool.{cond}
 use lib.Dec.{eqb}
 use Rattle.types.proofs.Injective.{Injective, of-back}
 use Rattle.types.specs.Refusals.{refusalOf}
-use Rattle.types.specs.Answers.{markAnswer, countAnswer, setAnswer, oddsAnswer, sampleAnswer2, sampleAnswer3, cellAnswer2, cellAnswer3}
+use Rattle.types.specs.Answers.{markAnswer, countAnswer, sweepAnswer, setAnswer, oddsAnswer, sampleAnswer2, sampleAnswer3, cellAnswer2, cellAnswer3}
 use Rattle.types.specs.declared.refusal.Refusal as Refusal
 use Rattle.types.specs.declared.refusal.Refusal.the-variants as R
 use Rattle.types.specs.declared.answers.MarkAnswer as Mark
 use Rattle.types.specs.declared.answers.CountAnswer as Count
+use Rattle.types.specs.declared.answers.SweepAnswer as Sweep
 use Rattle.types.specs.declared.answers.SetAnswer as Set
 use Rattle.types.specs.declared.answers.CellRead as CellRead
 use Rattle.types.specs.declared.answers.OddsAnswer as Odds
@@ -33,6 +34,7 @@ use Rattle.bresenham.specs.declared.line.Step3 as Step3
 use Rattle.c_types.specs.declared.refusals.CRefusal.{CRefusal}
 use Rattle.c_types.specs.declared.answers.CMarkAnswer.{CMarkAnswer}
 use Rattle.c_types.specs.declared.answers.CCountAnswer.{CCountAnswer}
+use Rattle.c_types.specs.declared.answers.CSweepAnswer.{CSweepAnswer}
 use Rattle.c_types.specs.declared.answers.COddsAnswer.{COddsAnswer}
 use Rattle.c_types.specs.declared.answers2.CMapAnswer2.{CMapAnswer2}
 use Rattle.c_types.specs.declared.answers2.CCellAnswer2.{CCellAnswer2}
@@ -45,7 +47,7 @@ use Rattle.c_types.specs.declared.answers3.CSampleAnswer3.{CSampleAnswer
 use Rattle.c_types.specs.declared.lines.CLineAnswer3.{CLineAnswer3}
 use Rattle.c_types.specs.declared.lines.CStep3.{CStep3}
 use Rattle.c_types.specs.Refusals.{cRefusal}
-use Rattle.c_types.specs.Answers.{cMark, cCount, cSet, cOdds, cMap2, cMap3, cCell2, cCell3, cSample2, cSample3}
+use Rattle.c_types.specs.Answers.{cMark, cCount, cSweep, cSet, cOdds, cMap2, cMap3, cCell2, cCell3, cSample2, cSample3}
 use Rattle.c_types.specs.Lines.{cLine2, cLine3, cStep2, cStep3}
 
 -- the refusal with a number; 7 has two cases, told apart by how many values it gives
@@ -63,7 +65,8 @@ refusal-back c =
     (cond (eqb n 9) R.Frame
     (cond (eqb n 10) (R.Record (c .bytes))
     (cond (eqb n 11) (R.Room (c .bytes))
-    (cond (eqb n 13) R.Odds R.Lists)))))))))))
+    (cond (eqb n 12) (R.Sweep (c .bytes))
+    (cond (eqb n 13) R.Odds R.Lists))))))))))))
 
 -- an answer where the number is 0, else the refusal
 abbrev read-back : {T : Type 0} → T → (Refusal.Refusal → T) → CRefusal → T
@@ -82,6 +85,7 @@ refused-there ok not-ok R.Beams = refl
 refused-there ok not-ok R.Frame = refl
 refused-there ok not-ok (R.Record offset) = refl
 refused-there ok not-ok (R.Room needed) = refl
+refused-there ok not-ok (R.Sweep offset) = refl
 refused-there ok not-ok R.Odds = refl
 refused-there ok not-ok R.Lists = refl
 
@@ -104,6 +108,16 @@ count-there (Count.the-variants.Refused r) = refused-there _ Count.the-variants.
 
 pub count-injective : Injective (λ a. cCount (countAnswer a))
 count-injective = of-back (λ a. cCount (countAnswer a)) count-back count-there
+
+abbrev sweep-back : CSweepAnswer → Sweep.SweepAnswer
+sweep-back c = read-back (Sweep.the-variants.Swept (c .station) (c .count)) Sweep.the-variants.Refused (c .refusal)
+
+sweep-there : (a : Sweep.SweepAnswer) → sweep-back (cSweep (sweepAnswer a)) ≡ a
+sweep-there (Sweep.the-variants.Swept station count) = refl
+sweep-there (Sweep.the-variants.Refused r) = refused-there _ Sweep.the-variants.Refused r
+
+pub sweep-injective : Injective (λ a. cSweep (sweepAnswer a))
+sweep-injective = of-back (λ a. cSweep (sweepAnswer a)) sweep-back sweep-there
 
 abbrev set-back : CRefusal → Set.SetAnswer
 set-back c = read-back Set.the-variants.Done Set.the-variants.Refused (c)

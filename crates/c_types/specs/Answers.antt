@@ -11,9 +11,11 @@ use Rattle.rules.specs.RefusalNumbers.{Answer, given, refused}
 use Rattle.rules.specs.RefusalNumbers.Entries.{Outcome}
 use Rattle.rules.specs.TheGridAndItsBounds.{Head}
 use Rattle.rules.specs.Coordinates.{Sample}
+use Rattle.rules.specs.SweepFile.{Swept}
 use Rattle.c_types.specs.declared.refusals.CRefusal.{CRefusal}
 use Rattle.c_types.specs.declared.answers.CMarkAnswer.{CMarkAnswer}
 use Rattle.c_types.specs.declared.answers.CCountAnswer.{CCountAnswer}
+use Rattle.c_types.specs.declared.answers.CSweepAnswer.{CSweepAnswer}
 use Rattle.c_types.specs.declared.answers.COddsAnswer.{COddsAnswer}
 use Rattle.c_types.specs.declared.answers2.CMapAnswer2.{CMapAnswer2}
 use Rattle.c_types.specs.declared.answers2.CCellAnswer2.{CCellAnswer2}
@@ -31,6 +33,10 @@ cMark (refused r) = record { refusal = cRefusal r; changed = false }
 abbrev pub cCount : Answer ℕ → CCountAnswer
 cCount (given n) = record { refusal = plain 0; count = n }
 cCount (refused r) = record { refusal = cRefusal r; count = 0 }
+
+abbrev pub cSweep : Answer Swept → CSweepAnswer
+cSweep (given s) = record { refusal = plain 0; station = s .station; count = s .count }
+cSweep (refused r) = record { refusal = cRefusal r; station = 0; count = 0 }
 
 abbrev pub cSet : Answer (Unit {0}) → CRefusal
 cSet (given _) = plain 0

@@ -1,7 +1,7 @@
 // The answers that are the same for two and three axes. Where a call is refused, what was asked for is 0.
 ghost use mathlib.Core.Path.{_≡_};
-ghost use Rattle.types.specs.Answers.{markAnswer, countAnswer, setAnswer, cellRead, oddsAnswer};
-ghost use Rattle.c_types.specs.Answers.{cMark, cCount, cSet, cRead, cOdds};
+ghost use Rattle.types.specs.Answers.{markAnswer, countAnswer, sweepAnswer, setAnswer, cellRead, oddsAnswer};
+ghost use Rattle.c_types.specs.Answers.{cMark, cCount, cSweep, cSet, cRead, cOdds};
 use crate::refusals::CRefusal;
 use crate::refusals::bare;
 use crate::refusals::refusal_to_c;
@@ -10,6 +10,7 @@ use types::CountAnswer;
 use types::MarkAnswer;
 use types::OddsAnswer;
 use types::SetAnswer;
+use types::SweepAnswer;
 
 // Whether a mark changed the cell.
 #[repr(C)]
@@ -22,6 +23,14 @@ pub struct CMarkAnswer {
 #[repr(C)]
 pub struct CCountAnswer {
     pub refusal: CRefusal,
+    pub count: u64,
+}
+
+// The station that mailed a sweep, and how many marks changed a cell.
+#[repr(C)]
+pub struct CSweepAnswer {
+    pub refusal: CRefusal,
+    pub station: u16,
     pub count: u64,
 }
 
@@ -58,6 +67,26 @@ pub fn count_to_c(answer: CountAnswer) -> CCountAnswer
         },
         CountAnswer::Refused(r) => CCountAnswer {
             refusal: refusal_to_c(r),
+            count: 0,
+        },
+    }
+}
+
+pub fn sweep_to_c(answer: SweepAnswer) -> CSweepAnswer
+    ensures { λ r. ⌜ r ≡ cSweep (sweepAnswer answer) ⌝ }
+{
+    match answer {
+        SweepAnswer::Swept {
+            station,
+            count: marked,
+        } => CSweepAnswer {
+            refusal: bare(0),
+            station,
+            count: marked,
+        },
+        SweepAnswer::Refused(r) => CSweepAnswer {
+            refusal: refusal_to_c(r),
+            station: 0,
             count: 0,
         },
     }

@@ -22,7 +22,7 @@ pub struct CRefusal {
     // 7 in a list: the refused beam's place, from 0, and the count of the beams before it.
     pub place: u64,
     pub count: u64,
-    // 10: the offset of the broken field. 11: the bytes needed.
+    // 10 and 12: the offset of the broken field. 11: the bytes needed.
     pub bytes: u64,
 }
 
@@ -77,7 +77,7 @@ fn in_list(place: u64, count: u64) -> CRefusal
     }
 }
 
-// A refusal of a map record.
+// A refusal of a map record or a sweep file.
 fn in_record(number: u32, bytes: u64) -> CRefusal
     ensures { λ r. ⌜ r ≡ inRecord number bytes ⌝ }
 {
@@ -115,6 +115,7 @@ pub fn refusal_to_c(refusal: Refusal) -> CRefusal
         Refusal::Frame => bare(9),
         Refusal::Record { offset } => in_record(10, offset),
         Refusal::Room { needed } => in_record(11, needed),
+        Refusal::Sweep { offset } => in_record(12, offset),
         Refusal::Odds => bare(13),
         Refusal::Lists => bare(14),
     }

@@ -7,4 +7,5 @@ pub use reading::read_rows;
 pub use reading::row_sound;
 pub use refusal::broken;
 pub use writing::rows_writable;
+pub use writing::write_floats;
 pub use writing::write_rows;

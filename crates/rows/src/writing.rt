@@ -53,8 +53,8 @@ pub fn rows_writable(odds: &[f64], width: usize, count: usize, model: Model, at:
     Check::Passed
 }
 
-// The floats of a row. The row is one of the list's, and there is room for it.
-fn write_floats(out: &mut [u8], at: usize, odds: &[f64], from: usize, width: usize)
+// Floats of a list, from a place on. They are the list's, and there is room for them.
+pub fn write_floats(out: &mut [u8], at: usize, odds: &[f64], from: usize, width: usize)
     requires { ⌜ at + 8 * width ≤ length (now out) ⌝ ∗ ⌜ from + width ≤ length (now odds) ⌝ }
     ensures { λ _. ⌜ now (out .exit) ≡ sets (now (out .entry)) at (floatBytes (take width (drop from (now (odds .entry))))) ⌝ }
 {

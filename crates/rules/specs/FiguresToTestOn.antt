@@ -1,8 +1,10 @@
 -- Document 01, "Figures to test on": every figure marked *, as one record whose fields are the figures, proved of the definitions by computation.
--- Two short tables stand below it. `Original` has answers of the original that a careless change of a definition alters where no figure
--- marked * notices; `Added` has some of what document 01 adds to the original: refusals, and the map record.
+-- Three short tables stand below it. `Original` has answers of the original that a careless change of a definition alters where no figure
+-- marked * notices; `Added` has some of what document 01 adds to the original: refusals, and the map record;
+-- `Sweeps` has change request 2's sweep file.
 pub mod Original
 pub mod Added
+pub mod Sweeps
 use Prim.Native.Nat.{ℕ, _-_}
 use mathlib.Core.Bool.{Bool, true, false}
 use mathlib.Core.List.{List, [], _∷_, _++_, map}

@@ -1,4 +1,4 @@
--- Document 01, section by section. `Floats` is its opening; each other file has the name of its section.
+-- Document 01, section by section. `Floats` is its opening; each other file has the name of its section. `SweepFile` is change request 2.
 pub mod Floats
 pub mod RefusalNumbers
 pub mod TheGridAndItsBounds
@@ -7,6 +7,7 @@ pub mod TheLine
 pub mod MarksAndFrames
 pub mod OneBeam
 pub mod MapRecord
+pub mod SweepFile
 pub mod FiguresToTestOn
 -- Document 02: a file for each request that adds an entry.
 pub mod ManySamples

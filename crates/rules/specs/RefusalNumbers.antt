@@ -57,6 +57,10 @@ brokenRecord offset = record { number = 10; values = pos offset ∷ [] }
 abbrev pub noRoom : ℕ → Refusal
 noRoom needed = record { number = 11; values = pos needed ∷ [] }
 
+-- Change request 2: "12, broken sweep field, with its offset"
+abbrev pub brokenSweep : ℕ → Refusal
+brokenSweep offset = record { number = 12; values = pos offset ∷ [] }
+
 -- "13, odds not a number" | change request 3: `set_log_odds_checked` with NaN | -
 abbrev pub oddsNotANumber : Refusal
 oddsNotANumber = record { number = 13; values = [] }

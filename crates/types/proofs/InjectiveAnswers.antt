@@ -8,10 +8,12 @@ use lib.Dec.{eqb}
 use lib.ListN.{getD, length}
 use Rattle.rules.specs.RefusalNumbers as Paper
 use Rattle.rules.specs.RefusalNumbers.{Answer, given, refused}
+use Rattle.rules.specs.SweepFile.{Swept}
 use Rattle.types.specs.declared.refusal.Refusal as Refusal
 use Rattle.types.specs.declared.refusal.Refusal.the-variants as R
 use Rattle.types.specs.declared.answers.MarkAnswer as MarkAnswer
 use Rattle.types.specs.declared.answers.CountAnswer as CountAnswer
+use Rattle.types.specs.declared.answers.SweepAnswer as SweepAnswer
 use Rattle.types.specs.declared.answers.SetAnswer as SetAnswer
 use Rattle.types.specs.declared.answers.CellRead as CellRead
 use Rattle.types.specs.declared.answers.OddsAnswer as OddsAnswer
@@ -22,7 +24,7 @@ use Rattle.types.specs.declared.answers.SampleAnswer3 as SampleAnswer3
 use Rattle.types.specs.declared.answers.CellAnswer2 as CellAnswer2
 use Rattle.types.specs.declared.answers.CellAnswer3 as CellAnswer3
 use Rattle.types.specs.Refusals.{refusalOf}
-use Rattle.types.specs.Answers.{markAnswer, countAnswer, setAnswer, cellRead, oddsAnswer}
+use Rattle.types.specs.Answers.{markAnswer, countAnswer, sweepAnswer, setAnswer, cellRead, oddsAnswer}
 use Rattle.types.specs.Answers.{sampleRead2, sampleRead3, sampleAnswer2, sampleAnswer3, cellAnswer2, cellAnswer3}
 use Rattle.types.proofs.Injective.{Injective, of-back, cell2-back, cell3-back, sample2-back, sample3-back}
 
@@ -45,7 +47,8 @@ refusal-back r =
     (cond (eqb n 9) R.Frame
     (cond (eqb n 10) (R.Record (value r 0))
     (cond (eqb n 11) (R.Room (value r 0))
-    (cond (eqb n 13) R.Odds R.Lists)))))))))))
+    (cond (eqb n 12) (R.Sweep (value r 0))
+    (cond (eqb n 13) R.Odds R.Lists))))))))))))
 
 pub refusal-there : (r : Refusal.Refusal) → refusal-back (refusalOf r) ≡ r
 unfolding refusal-back value
@@ -61,6 +64,7 @@ refusal-there R.Beams = refl
 refusal-there R.Frame = refl
 refusal-there (R.Record offset) = refl
 refusal-there (R.Room needed) = refl
+refusal-there (R.Sweep offset) = refl
 refusal-there R.Odds = refl
 refusal-there R.Lists = refl
 
@@ -89,6 +93,16 @@ countAnswer-there (CountAnswer.the-variants.Refused r) = ap CountAnswer.the-vari
 
 pub countAnswer-injective : Injective countAnswer
 countAnswer-injective = of-back countAnswer (answer-back CountAnswer.the-variants.Count CountAnswer.the-variants.Refused) countAnswer-there
+
+abbrev swept-back : Swept → SweepAnswer.SweepAnswer
+swept-back s = SweepAnswer.the-variants.Swept (s .station) (s .count)
+
+sweepAnswer-there : (a : SweepAnswer.SweepAnswer) → answer-back swept-back SweepAnswer.the-variants.Refused (sweepAnswer a) ≡ a
+sweepAnswer-there (SweepAnswer.the-variants.Swept station count) = refl
+sweepAnswer-there (SweepAnswer.the-variants.Refused r) = ap SweepAnswer.the-variants.Refused (refusal-there r)
+
+pub sweepAnswer-injective : Injective sweepAnswer
+sweepAnswer-injective = of-back sweepAnswer (answer-back swept-back SweepAnswer.the-variants.Refused) sweepAnswer-there
 
 setAnswer-there : (a : SetAnswer.SetAnswer) → answer-back (λ (t : Unit {0}). SetAnswer.the-variants.Done) SetAnswer.the-variants.Refused (setAnswer a) ≡ a
 setAnswer-there SetAnswer.the-variants.Done = refl

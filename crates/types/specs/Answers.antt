@@ -7,8 +7,10 @@ use lib.IntN.{ℤ}
 use lib.Ieee.{Float}
 use Rattle.rules.specs.RefusalNumbers.{Answer, given, refused}
 use Rattle.rules.specs.Coordinates.{Sample}
+use Rattle.rules.specs.SweepFile.{Swept}
 use Rattle.types.specs.declared.answers.MarkAnswer as MarkAnswer
 use Rattle.types.specs.declared.answers.CountAnswer as CountAnswer
+use Rattle.types.specs.declared.answers.SweepAnswer as SweepAnswer
 use Rattle.types.specs.declared.answers.SetAnswer as SetAnswer
 use Rattle.types.specs.declared.answers.CellRead as CellRead
 use Rattle.types.specs.declared.answers.OddsAnswer as OddsAnswer
@@ -29,6 +31,10 @@ markAnswer (MarkAnswer.the-variants.Refused r) = refused (refusalOf r)
 abbrev pub countAnswer : CountAnswer.CountAnswer → Answer ℕ
 countAnswer (CountAnswer.the-variants.Count n) = given n
 countAnswer (CountAnswer.the-variants.Refused r) = refused (refusalOf r)
+
+abbrev pub sweepAnswer : SweepAnswer.SweepAnswer → Answer Swept
+sweepAnswer (SweepAnswer.the-variants.Swept station count) = given (record { station = station; count = count })
+sweepAnswer (SweepAnswer.the-variants.Refused r) = refused (refusalOf r)
 
 abbrev pub setAnswer : SetAnswer.SetAnswer → Answer (Unit {0})
 setAnswer SetAnswer.the-variants.Done = given tt

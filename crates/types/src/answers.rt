@@ -17,6 +17,12 @@ pub enum CountAnswer {
     Refused(Refusal),
 }
 
+// A sweep file: the station that mailed it, and how many marks changed a cell.
+pub enum SweepAnswer {
+    Swept { station: u16, count: u64 },
+    Refused(Refusal),
+}
+
 pub enum SetAnswer {
     Done,
     Refused(Refusal),

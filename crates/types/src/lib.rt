@@ -20,6 +20,7 @@ pub use answers::SampleAnswer3;
 pub use answers::SampleRead2;
 pub use answers::SampleRead3;
 pub use answers::SetAnswer;
+pub use answers::SweepAnswer;
 pub use beams::Clipped2;
 pub use beams::Clipped3;
 pub use beams::RayTermination;

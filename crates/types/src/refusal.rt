@@ -42,6 +42,10 @@ pub enum Refusal {
     Room {
         needed: u64,
     },
+    // The sweep file is broken at this offset.
+    Sweep {
+        offset: u64,
+    },
     // The odds are not a number.
     Odds,
     // The lists of points, samples and marks are not for the same number of points.

@@ -16,9 +16,10 @@ use Rattle.rules.specs.TheGridAndItsBounds.{Model, Head, Grid, cells, onePerCel
 use Rattle.rules.specs.Coordinates.{flatIndex}
 use Rattle.rules.specs.MarksAndFrames.{openedFrame, openedStamps}
 use Rattle.rules.specs.OneBeam.{Beam, integratedBeam, integrated, flatShape, beamsOf}
+use Rattle.rules.specs.SweepFile.{Sweep, Swept, sweepOf, sweepAnswer, updateSweepEntry}
 use Rattle.laws.specs.Checks.{passed}
 use Rattle.laws.specs.DemandThree.Proof.{opened-length}
-use Rattle.laws.specs.HandCorrections.{Map, Call, set-odds, set-checked, mark, update-ray, update-scan, update-beams, open-scan, reset-map, headAfter, after, afterAll}
+use Rattle.laws.specs.HandCorrections.{Map, Call, set-odds, set-checked, mark, update-ray, update-scan, update-beams, update-sweep, open-scan, reset-map, headAfter, after, afterAll}
 use Rattle.laws.specs.CheckedSet.{number-set, nan-refused}
 use Rattle.laws.specs.HandCorrections.Sets.{set-length}
 use Rattle.laws.specs.HandCorrections.Lists.{list-is, list-keeps}
@@ -131,6 +132,16 @@ beams-kept : (f : Format) (h : Head) (bs : List Beam) (g : Grid) → Sized g (up
 unfolding updateBeamsEntry
 beams-kept f h bs g = list-kept f h (headRefusal (usesOf beams) h (length (g .odds)) (length (g .stamps))) bs g
 
+sweep-sized : (f : Format) (h : Head) (g : Grid) (a : Answer Sweep) → Sized g (sweepAnswer f h g a .lent)
+sweep-sized f h g (refused r) = record { odds = refl; stamps = refl }
+sweep-sized f h g (given s) = list-sized f h (s .beams) g
+
+sweep-kept : (f : Format) (h : Head) (bytes : List ℕ) (g : Grid) → Sized g (updateSweepEntry f h bytes g .lent)
+unfolding updateSweepEntry
+sweep-kept f h bytes g =
+    let a = sweepOf (length (h .extents)) bytes in
+    unless-sized {A = Swept} (headRefusal (usesOf beams) h (length (g .odds)) (length (g .stamps))) g (sweepAnswer f h g a) (sweep-sized f h g a)
+
 checked-length : (h : Head) (cell : List ℤ) (x : Float) (odds : List Float) → length (setLogOddsCheckedEntry h cell x odds .lent) ≡ length odds
 checked-length h cell x odds = go (isNan x) refl
   where
@@ -148,6 +159,7 @@ call-keeps f (mark occupied cell) m = same-head m (markEntry f occupied (m .head
 call-keeps f (update-ray b) m = same-head m (updateRayEntry f (m .head) b (m .grid) .lent) (ray-kept f (m .head) b (m .grid))
 call-keeps f (update-scan numbers hits) m = same-head m (updateScanEntry f (m .head) numbers hits (m .grid) .lent) (scan-kept f (m .head) numbers hits (m .grid))
 call-keeps f (update-beams bs) m = same-head m (updateBeamsEntry f (m .head) bs (m .grid) .lent) (beams-kept f (m .head) bs (m .grid))
+call-keeps f (update-sweep bytes) m = same-head m (updateSweepEntry f (m .head) bytes (m .grid) .lent) (sweep-kept f (m .head) bytes (m .grid))
 call-keeps f open-scan m = opened-kept m (headRefusal (usesOf begin-scan) (m .head) 0 (length (m .grid .stamps)))
 call-keeps f reset-map m = fresh-kept m (tried m) refl
 

@@ -77,6 +77,12 @@ enum-known-refusal-6 c = search needs
 in-record-requires-2 : tie.Need-in-record-requires-2
 in-record-requires-2 c κs = search needs
 
+enum-known-refusal-7 : tie.Need-enum-known-refusal-7
+enum-known-refusal-7 c = search needs
+
+in-record-requires-3 : tie.Need-in-record-requires-3
+in-record-requires-3 c κs = search needs
+
 enum-told-7 : tie.Need-enum-told-7
 enum-told-7 c = search needs
 
@@ -128,10 +134,13 @@ returns-12 : tie.Need-returns-12
 returns-12 c = simp (c .in-record2 .ensures, c .before .before .refusal6 .given .1)
 
 returns-13 : tie.Need-returns-13
-returns-13 c = simp (c .bare7 .ensures, c .before .enum-told7 .given .1)
+returns-13 c = simp (c .in-record3 .ensures, c .before .before .refusal7 .given .1)
 
 returns-14 : tie.Need-returns-14
-returns-14 c = simp (c .bare8 .ensures, c .before .enum-told8 .given .1)
+returns-14 c = simp (c .bare7 .ensures, c .before .enum-told7 .given .1)
+
+returns-15 : tie.Need-returns-15
+returns-15 c = simp (c .bare8 .ensures, c .before .enum-told8 .given .1)
 
 pub refusal-to-c-spec : {M : Type 1} → statement M
 refusal-to-c-spec =
@@ -161,6 +170,8 @@ refusal-to-c-spec =
     in-record-requires
     enum-known-refusal-6
     in-record-requires-2
+    enum-known-refusal-7
+    in-record-requires-3
     enum-told-7
     bare-requires-7
     enum-told-8
@@ -178,4 +189,5 @@ refusal-to-c-spec =
     returns-11
     returns-12
     returns-13
-    returns-14)
+    returns-14
+    returns-15)
