@@ -1,4 +1,4 @@
-//! Says where libtembuzar.a is: in TEMBUZAR_LIB_DIR, else where `rt staticlib tembuzar` writes it.
+//! Says where the two libraries are: in TEMBUZAR_LIB_DIR, else where `rt staticlib` writes them.
 
 use std::path::PathBuf;
 
@@ -8,13 +8,15 @@ fn main() {
         Ok(given) => PathBuf::from(given),
         Err(_) => home.join("../target/staticlib"),
     };
-    let library = folder.join("libtembuzar.a");
     println!("cargo:rerun-if-env-changed=TEMBUZAR_LIB_DIR");
-    println!("cargo:rerun-if-changed={}", library.display());
-    if !library.exists() {
-        eprintln!("{} is not there: run `rt staticlib tembuzar` in the repository's root first", library.display());
-        std::process::exit(1);
-    }
     println!("cargo:rustc-link-search=native={}", folder.display());
-    println!("cargo:rustc-link-lib=static=tembuzar");
+    for name in ["tembuzar", "tembuzar_samples"] {
+        let library = folder.join(format!("lib{name}.a"));
+        println!("cargo:rerun-if-changed={}", library.display());
+        if !library.exists() {
+            eprintln!("{} is not there: run `rt staticlib {name}` in the repository's root first", library.display());
+            std::process::exit(1);
+        }
+        println!("cargo:rustc-link-lib=static={name}");
+    }
 }

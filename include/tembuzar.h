@@ -8,7 +8,9 @@
  *
  * The code behind each function is proved to answer by one rule, for every input that the rules below allow.
  * docs/ENTRIES.md names the rule of each.
- * Link with target/staticlib/libtembuzar.a, which `rt staticlib tembuzar` writes for x86-64 Linux.
+ * Link with target/staticlib/libtembuzar.a, which `rt staticlib tembuzar` writes for x86-64 Linux. The two functions that
+ * sample many points in one call are in a library of their own, target/staticlib/libtembuzar_samples.a, which
+ * `rt staticlib tembuzar_samples` writes; it needs nothing of the other.
  *
  * WHAT THE CALLER HOLDS
  *

@@ -36,6 +36,10 @@ pub struct Bench<const N: usize> {
     numbers: Vec<f64>,
     hits: Vec<u8>,
     points: Vec<Point<N>>,
+    /// The same points as flat numbers, and the slots and marks of a call for all of them.
+    flat: Vec<f64>,
+    slots: Vec<f64>,
+    found: Vec<u8>,
 }
 
 impl<const N: usize> Bench<N> {
@@ -56,6 +60,9 @@ impl<const N: usize> Bench<N> {
             numbers,
             hits: beams.iter().map(|beam| u8::from(beam.hit)).collect(),
             points: points.iter().map(|&point| Point(point)).collect(),
+            flat: points.iter().flatten().copied().collect(),
+            slots: vec![0.0; (N + 1) * points.len()],
+            found: vec![0; points.len()],
         }
     }
 
@@ -136,6 +143,15 @@ where
         *head = Tembuzar::begin_scan(*head, stamps).map;
         let answer = Tembuzar::update_scan(*head, odds, stamps, &self.numbers, &self.hits);
         if answer.refusal.number == 0 { answer.count } else { u64::MAX }
+    }
+
+    pub fn our_samples_in_one_call(&mut self) -> u64 {
+        let ours = &self.ours;
+        Tembuzar::sample_all_log_odds(ours.head, &ours.odds, black_box(&self.flat), &mut self.slots, &mut self.found);
+        self.slots.chunks_exact(N + 1).zip(&self.found).fold(0, |seen, (slot, found)| {
+            let gradient = slot[1..].try_into().expect("a slot has a value and a gradient");
+            seen ^ if *found == 1 { all_bits::<N>(slot[0], gradient) } else { 1 }
+        })
     }
 
     pub fn our_samples(&mut self) -> u64 {

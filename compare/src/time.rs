@@ -148,10 +148,22 @@ fn looks(run: &Run) {
         Bench::original_samples_called,
         Bench::our_samples,
     );
+    run.case(
+        "1,000 samples, ours in one call, 256 x 256",
+        &mut bench,
+        Bench::original_samples,
+        Bench::our_samples_in_one_call,
+    );
     let points: Vec<[f64; 3]> = (0..1000).map(|_| [(); 3].map(|_| rng.between(0.0, 63.0))).collect();
     let mut bench = Bench::new([128, 128, 64], 1, &dome(&mut rng, 10_000), &points);
     bench.swept();
     run.case("1,000 samples, 128 x 128 x 64", &mut bench, Bench::original_samples, Bench::our_samples);
+    run.case(
+        "1,000 samples, ours in one call, 128 x 128 x 64",
+        &mut bench,
+        Bench::original_samples,
+        Bench::our_samples_in_one_call,
+    );
 }
 
 fn heads(run: &Run) {

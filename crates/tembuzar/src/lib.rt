@@ -6,7 +6,6 @@ mod lines;
 mod map2;
 mod map3;
 mod record;
-mod samples;
 mod sweep2;
 mod sweep3;
 mod sweep_file;

@@ -2,8 +2,8 @@
 use borrow.Author.Needs.{needs}
 use Rattle.c_types.proofs.Telling.{told}
 use Rattle.c_types.specs.Answers.{cSet}
-use Rattle.tembuzar.proofs.samples.tembuzar_sample_all_log_odds3.Statement.{statement}
-use Rattle.tembuzar.proofs.samples.tembuzar_sample_all_log_odds3.Tie as tie
+use Rattle.tembuzar_samples.proofs.tembuzar_sample_all_log_odds3.Statement.{statement}
+use Rattle.tembuzar_samples.proofs.tembuzar_sample_all_log_odds3.Tie as tie
 
 sample-all-log-odds3-requires : tie.Need-sample-all-log-odds3-requires
 sample-all-log-odds3-requires c κs = search needs
