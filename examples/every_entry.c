@@ -20,6 +20,10 @@ static uint32_t stamps_read[5 * 4 * 3];
 static uint8_t bytes[600];
 static const tembuzar_model model = {.occupied = 0.75, .free = -0.5, .ceiling = 4.0};
 
+/* Three axes: one height in each band, and the same pair in all, as a record of edition 1 keeps it. */
+static const tembuzar_bands bands = {
+    .low = {0.75, -0.5}, .middle = {0.75, -0.5}, .high = {0.75, -0.5}, .ceiling = 4.0, .cuts = {1, 2}};
+
 static void samples_of_two_axes(tembuzar_map2 map)
 {
     enum { CELLS = 5 * 4 };
@@ -187,13 +191,13 @@ static void record_of_three_axes(tembuzar_map3 map)
     n = tembuzar_write_record3(map, odds, CELLS, bytes, sizeof bytes);
     printf("write_record number %u, count %lu, extents %u %u %u, frame %u, end %u, next %u [0, 562, 5 4 3, 2, 5, 170]\n",
            n.refusal.number, n.count, bytes[3], bytes[5], bytes[7], bytes[39], bytes[BYTES - 3], bytes[BYTES]);
-    tembuzar_map_answer3 m = tembuzar_read_record3(bytes, 100, odds_read, CELLS, stamps_read, CELLS);
+    tembuzar_map_answer3 m = tembuzar_read_record3(bytes, 100, bands.cuts, odds_read, CELLS, stamps_read, CELLS);
     printf("read_record  number %u, values %u, bytes %lu, odds %g, stamp %x [10, 1, 86, 0, aaaaaaaa]\n",
            m.refusal.number, m.refusal.values, m.refusal.bytes, odds_read[11], stamps_read[11]);
-    m = tembuzar_read_record3(bytes, BYTES, odds_read, CELLS, stamps_read, CELLS);
+    m = tembuzar_read_record3(bytes, BYTES, bands.cuts, odds_read, CELLS, stamps_read, CELLS);
     printf("read_record  number %u, %lu by %lu by %lu, model %g %g %g, frame %u [0, 5 by 4 by 3, 0.75 -0.5 4, 2]\n",
            m.refusal.number,
-           m.map.extents.x, m.map.extents.y, m.map.extents.z, m.map.model.occupied, m.map.model.free, m.map.model.ceiling, m.map.frame);
+           m.map.extents.x, m.map.extents.y, m.map.extents.z, m.map.bands.low.occupied, m.map.bands.low.free, m.map.bands.ceiling, m.map.frame);
     printf("             odds %g, all as written %d, stamp %x [0.75, 1, 0]\n",
            odds_read[11], memcmp(odds, odds_read, CELLS * sizeof *odds) == 0, stamps_read[11]);
 }
@@ -201,10 +205,10 @@ static void record_of_three_axes(tembuzar_map3 map)
 static void three_axes(void)
 {
     enum { CELLS = 5 * 4 * 3 };
-    tembuzar_map_answer3 m = tembuzar_new3((tembuzar_extents3){5, 4, 3}, model, odds, CELLS, stamps, CELLS);
+    tembuzar_map_answer3 m = tembuzar_new3((tembuzar_extents3){5, 4, 3}, bands, odds, CELLS, stamps, CELLS);
     printf("new          number %u, %lu by %lu by %lu, model %g %g %g, frame %u [0, 5 by 4 by 3, 0.75 -0.5 4, 1]\n",
            m.refusal.number,
-           m.map.extents.x, m.map.extents.y, m.map.extents.z, m.map.model.occupied, m.map.model.free, m.map.model.ceiling, m.map.frame);
+           m.map.extents.x, m.map.extents.y, m.map.extents.z, m.map.bands.low.occupied, m.map.bands.low.free, m.map.bands.ceiling, m.map.frame);
     m = tembuzar_begin_scan3(m.map, stamps, CELLS);
     printf("begin_scan   number %u, frame %u [0, 2]\n", m.refusal.number, m.map.frame);
     tembuzar_mark_answer k = tembuzar_mark_free3(m.map, odds, CELLS, stamps, CELLS, (tembuzar_cell3){1, 2, 0});
@@ -256,10 +260,10 @@ static void three_axes(void)
 static void lent_forms_of_three_axes(void)
 {
     enum { CELLS = 5 * 4 * 3 };
-    tembuzar_map3 map = tembuzar_new3((tembuzar_extents3){5, 4, 3}, model, odds, CELLS, stamps, CELLS).map;
+    tembuzar_map3 map = tembuzar_new3((tembuzar_extents3){5, 4, 3}, bands, odds, CELLS, stamps, CELLS).map;
     tembuzar_refusal r = tembuzar_open_scan3(&map, stamps, CELLS);
     printf("open_scan    number %u, %lu by %lu by %lu, model %g %g %g, frame %u [0, 5 by 4 by 3, 0.75 -0.5 4, 2]\n", r.number,
-           map.extents.x, map.extents.y, map.extents.z, map.model.occupied, map.model.free, map.model.ceiling, map.frame);
+           map.extents.x, map.extents.y, map.extents.z, map.bands.low.occupied, map.bands.low.free, map.bands.ceiling, map.frame);
     r = tembuzar_open_scan3(&map, stamps, CELLS - 1);
     printf("open_scan    number %u, frame %u [4, 2]\n", r.number, map.frame);
     const tembuzar_beam3 beams[] = {
@@ -281,7 +285,7 @@ static void lent_forms_of_three_axes(void)
 static void sweep_file_of_three_axes(void)
 {
     enum { CELLS = 5 * 4 * 3, BYTES = 9 + 2 * 52 + 7 };
-    tembuzar_map3 map = tembuzar_new3((tembuzar_extents3){5, 4, 3}, model, odds, CELLS, stamps, CELLS).map;
+    tembuzar_map3 map = tembuzar_new3((tembuzar_extents3){5, 4, 3}, bands, odds, CELLS, stamps, CELLS).map;
     const double beams[] = {4.5, 3.5, 2.5, 2.25, 3.25, 2.75, 0.5, 0.5, 1.5, 3.5, 0.5, 1.5};
     const uint8_t hits[] = {1, 0};
     memset(bytes, 170, sizeof bytes);
@@ -300,6 +304,29 @@ static void sweep_file_of_three_axes(void)
            s.refusal.number, s.refusal.values, s.refusal.bytes, s.station, s.count);
 }
 
+/* Each band has its own steps. */
+static void three_bands(void)
+{
+    enum { CELLS = 5 * 4 * 3 };
+    uint8_t bytes[600];
+    tembuzar_bands unequal = bands;
+    unequal.middle = (tembuzar_pair){0.5, -0.25};
+    unequal.high = (tembuzar_pair){0.25, -0.125};
+    tembuzar_map_answer3 m = tembuzar_new3((tembuzar_extents3){5, 4, 3}, unequal, odds, CELLS, stamps, CELLS);
+    tembuzar_map3 map = tembuzar_begin_scan3(m.map, stamps, CELLS).map;
+    for (int64_t z = 0; z < 3; z++)
+        tembuzar_mark_free3(map, odds, CELLS, stamps, CELLS, (tembuzar_cell3){1, 2, z});
+    printf("bands        free %g %g %g [-0.5 -0.25 -0.125]\n", odds[11], odds[31], odds[51]);
+    for (int64_t z = 0; z < 3; z++)
+        tembuzar_mark_occupied3(map, odds, CELLS, stamps, CELLS, (tembuzar_cell3){1, 2, z});
+    printf("             occupied %g %g %g [0.75 0.5 0.25]\n", odds[11], odds[31], odds[51]);
+    tembuzar_count_answer n = tembuzar_write_record3(map, odds, CELLS, bytes, sizeof bytes);
+    printf("write_record number %u, bytes %lu [10, 9]\n", n.refusal.number, n.refusal.bytes);
+    unequal.cuts.second = 3;
+    m = tembuzar_new3((tembuzar_extents3){5, 4, 3}, unequal, odds, CELLS, stamps, CELLS);
+    printf("new          number %u, odds %g [15, 0.75]\n", m.refusal.number, odds[11]);
+}
+
 int main(void)
 {
     printf("two axes\n");
@@ -308,6 +335,7 @@ int main(void)
     sweep_file_of_two_axes();
     printf("three axes\n");
     three_axes();
+    three_bands();
     lent_forms_of_three_axes();
     sweep_file_of_three_axes();
     return 0;

@@ -33,6 +33,8 @@ struct call {
 };
 
 static const tembuzar_model model = {.occupied = 0.75, .free = -0.5, .ceiling = 4.0};
+static const tembuzar_bands bands = {
+    .low = {0.75, -0.5}, .middle = {0.75, -0.5}, .high = {0.75, -0.5}, .ceiling = 4.0, .cuts = {SIDE / 3, 2 * SIDE / 3}};
 
 static void *hand_over(void *p)
 {
@@ -42,7 +44,7 @@ static void *hand_over(void *p)
         tembuzar_map2 map = tembuzar_new2((tembuzar_extents2){SIDE, SIDE}, model, c->odds, cells, c->stamps, cells).map;
         c->answer = tembuzar_update_scan2(map, c->odds, cells, c->stamps, cells, c->numbers, 4 * c->beams, c->hits, c->beams);
     } else {
-        tembuzar_map3 map = tembuzar_new3((tembuzar_extents3){SIDE, SIDE, SIDE}, model, c->odds, cells, c->stamps, cells).map;
+        tembuzar_map3 map = tembuzar_new3((tembuzar_extents3){SIDE, SIDE, SIDE}, bands, c->odds, cells, c->stamps, cells).map;
         c->answer = tembuzar_update_scan3(map, c->odds, cells, c->stamps, cells, c->numbers, 6 * c->beams, c->hits, c->beams);
     }
     return NULL;

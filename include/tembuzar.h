@@ -68,7 +68,7 @@ enum tembuzar_number {
     TEMBUZAR_ANSWERED = 0,
     TEMBUZAR_DIMENSION_TOO_SMALL = 1,   /* an extent below 2. Gives axis (the first such), extent */
     TEMBUZAR_CAPACITY_OVERFLOW = 2,     /* an extent above 4,096, or too many cells */
-    TEMBUZAR_MODEL = 3,                 /* the model is out of its bounds: see tembuzar_model */
+    TEMBUZAR_MODEL = 3,                 /* the model or a band is out of its bounds: see tembuzar_model, tembuzar_bands */
     TEMBUZAR_BUFFER = 4,                /* odds or stamps are not one for each cell */
     TEMBUZAR_OUT_OF_BOUNDS = 5,         /* a cell or a point is off the grid. Gives axis (the first), index, extent, axes */
     TEMBUZAR_NON_FINITE_COORDINATE = 6, /* a point has NaN or infinity. Gives axis (the first) */
@@ -79,7 +79,8 @@ enum tembuzar_number {
     TEMBUZAR_ROOM = 11,                 /* the output is shorter than the record or file. Gives bytes: how many it needs */
     TEMBUZAR_SWEEP = 12,                /* a sweep file is broken. Gives bytes: the offset of the field */
     TEMBUZAR_ODDS = 13,                 /* the odds are not a number */
-    TEMBUZAR_LISTS = 14                 /* points, samples and marks are not for the same number of points */
+    TEMBUZAR_LISTS = 14,                /* points, samples and marks are not for the same number of points */
+    TEMBUZAR_CUTS = 15                  /* the cuts are not 0 < first < second < extents.z: see tembuzar_bands */
 };
 
 /* Why a call was refused. A value that the number does not give is 0. */
@@ -167,9 +168,28 @@ typedef struct tembuzar_extents3 {
     uint64_t x, y, z;
 } tembuzar_extents3;
 
+/* A map of three axes has three bands along z, each with its own pair of steps, since high cloud returns less light than
+ * low cloud. A cell whose z is below cuts.first is in the low band, below cuts.second in the middle one, else in the high
+ * one. The ceiling is common; each pair with it has the bounds of a tembuzar_model, else 3. 0 < first < second <
+ * extents.z, so that each band has a height at least; else 15, and so a map of three axes has 3 heights or more. */
+typedef struct tembuzar_pair {
+    double occupied;
+    double free;
+} tembuzar_pair;
+
+typedef struct tembuzar_cuts {
+    uint64_t first, second;
+} tembuzar_cuts;
+
+typedef struct tembuzar_bands {
+    tembuzar_pair low, middle, high;
+    double ceiling;
+    tembuzar_cuts cuts;
+} tembuzar_bands;
+
 typedef struct tembuzar_map3 {
     tembuzar_extents3 extents;
-    tembuzar_model model;
+    tembuzar_bands bands;
     uint32_t frame;
 } tembuzar_map3;
 
@@ -379,9 +399,10 @@ tembuzar_line_answer2 tembuzar_plotter2(tembuzar_point2 start, tembuzar_point2 e
 tembuzar_step_answer2 tembuzar_step2(tembuzar_line2 line);
 
 /* ---- Functions, three axes: as for two; a beam of a list has 6 numbers, origin x, y, z, then endpoint x, y, z; a point
- *      of a list has 3, x, y, z, and its sample 4, value, gradient x, y, z ---- */
+ *      of a list has 3, x, y, z, and its sample 4, value, gradient x, y, z. Each function that refuses with 3 refuses bad
+ *      cuts with 15, after 3 and before the rest ---- */
 
-tembuzar_map_answer3 tembuzar_new3(tembuzar_extents3 extents, tembuzar_model model,
+tembuzar_map_answer3 tembuzar_new3(tembuzar_extents3 extents, tembuzar_bands bands,
                                    double *odds, size_t odds_count, uint32_t *stamps, size_t stamps_count);
 
 tembuzar_map_answer3 tembuzar_reset3(tembuzar_map3 map,
@@ -465,8 +486,10 @@ tembuzar_map_answer2 tembuzar_read_record2(const uint8_t *bytes, size_t bytes_co
 tembuzar_count_answer tembuzar_write_record2(tembuzar_map2 map, const double *odds, size_t odds_count,
                                              uint8_t *out, size_t out_count);
 
-/* The same for three axes. */
-tembuzar_map_answer3 tembuzar_read_record3(const uint8_t *bytes, size_t bytes_count,
+/* The same for three axes. A record has one pair of steps and no cuts: read, every band has its pair, and the cuts are the
+ * caller's; cuts that do not fit the record's extents are refused with 15, after 10 and before 4. Written, the pairs of
+ * all bands have to be equal, bit for bit; else 10 at offset 9, that of the model's field, before that of any row. */
+tembuzar_map_answer3 tembuzar_read_record3(const uint8_t *bytes, size_t bytes_count, tembuzar_cuts cuts,
                                            double *odds, size_t odds_count, uint32_t *stamps, size_t stamps_count);
 
 tembuzar_count_answer tembuzar_write_record3(tembuzar_map3 map, const double *odds, size_t odds_count,

@@ -3,9 +3,10 @@
 //! answered, what was asked for is to be 0, and no list may change.
 
 use oracle::generate::{self, Rng};
-use oracle::rust::HIGHEST_FRAME;
+use oracle::rust::{HIGHEST_FRAME, MapState};
 
 use crate::answers::{self, Verdict, hex};
+use crate::draw;
 use crate::face::Face;
 use crate::ffi::{Beam, Cell, Map, MapAnswer, Point, Refusal};
 use crate::pair::head_of;
@@ -57,7 +58,8 @@ fn text<const N: usize>(input: &Input<N>) -> String {
 }
 
 fn sound<const N: usize>(rng: &mut Rng) -> Input<N> {
-    let state = generate::state::<f64, N>(rng, 4);
+    let extents = draw::banded(generate::extents(rng, 4));
+    let state: MapState<f64, N> = generate::state_of(rng, extents);
     let beams = rng.below(4);
     let numbers = (0..2 * N * beams).map(|_| rng.between(-1.0, 5.0)).collect();
     let hits = (0..beams).map(|_| rng.below(2) as u8).collect();

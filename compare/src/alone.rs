@@ -78,6 +78,9 @@ fn asked_new<const N: usize>(extents: [usize; N], model: generate::Model<f64>) -
     if too_much && !too_small {
         return Err(Refusal { number: 2, ..Refusal::default() });
     }
+    if N == 3 && extents[2] == 2 && !too_small {
+        return Err(Refusal { number: 15, ..Refusal::default() });
+    }
     RustMap::fresh(extents, model.occupied, model.free, model.ceiling).map_err(refusal_of)
 }
 

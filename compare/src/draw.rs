@@ -12,8 +12,20 @@ pub fn round_numbers(seed: u64, round: u64) -> Rng {
     numbers
 }
 
+/// Three bands need three heights.
+pub fn banded<const N: usize>(mut extents: [usize; N]) -> [usize; N] {
+    if N == 3 {
+        extents[2] = extents[2].max(3);
+    }
+    extents
+}
+
 /// Small, middling or long; `large` is drawn apart, since it costs as much as thousands of others.
 pub fn extents<const N: usize>(rng: &mut Rng) -> [usize; N] {
+    banded(any_extents(rng))
+}
+
+fn any_extents<const N: usize>(rng: &mut Rng) -> [usize; N] {
     let (small, middling, wide) = if N == 2 { (16, 64, 300) } else { (9, 20, 44) };
     match rng.below(64) {
         0..=39 => generate::extents(rng, small),
@@ -32,8 +44,9 @@ pub fn large_extents<const N: usize>(rng: &mut Rng) -> [usize; N] {
     let mut extents = [2; N];
     let mut left = 16_777_216;
     for (axis, extent) in extents.iter_mut().enumerate() {
-        let most = (left >> (N - 1 - axis)).min(4096);
-        *extent = if rng.chance(2) { most } else { 2 + rng.below(most - 1) };
+        let least: usize = if N == 3 { 3 } else { 2 };
+        let most = (left / least.pow((N - 1 - axis) as u32)).min(4096);
+        *extent = if rng.chance(2) { most } else { least + rng.below(most - least + 1) };
         left /= *extent;
     }
     extents

@@ -32,17 +32,17 @@ pub struct Tembuzar;
 
 /// The declarations of one number of axes, and the safe calls over them. The names are the header's.
 macro_rules! face {
-    ($n:literal, $new:ident, $reset:ident, $begin_scan:ident, $open_scan:ident, $update_scan:ident, $update_beams:ident,
+    ($n:literal, $head:ty, $steps:ty, $new:ident, $reset:ident, $begin_scan:ident, $open_scan:ident, $update_scan:ident, $update_beams:ident,
      $update_ray:ident, $mark_free:ident, $mark_occupied:ident, $set_log_odds:ident, $set_log_odds_checked:ident,
      $log_odds_at:ident, $sample_log_odds:ident, $sample_all_log_odds:ident, $cell_containing:ident, $plotter:ident,
      $step:ident) => {
         unsafe extern "C" {
-            fn $new(e: Extents<$n>, m: Model, o: *mut f64, oc: usize, s: *mut u32, sc: usize) -> MapAnswer<$n>;
-            fn $reset(m: Map<$n>, o: *mut f64, oc: usize, s: *mut u32, sc: usize) -> MapAnswer<$n>;
-            fn $begin_scan(m: Map<$n>, s: *mut u32, sc: usize) -> MapAnswer<$n>;
-            fn $open_scan(m: *mut Map<$n>, s: *mut u32, sc: usize) -> Refusal;
+            fn $new(e: Extents<$n>, m: $steps, o: *mut f64, oc: usize, s: *mut u32, sc: usize) -> HeadAnswer<$head>;
+            fn $reset(m: $head, o: *mut f64, oc: usize, s: *mut u32, sc: usize) -> HeadAnswer<$head>;
+            fn $begin_scan(m: $head, s: *mut u32, sc: usize) -> HeadAnswer<$head>;
+            fn $open_scan(m: *mut $head, s: *mut u32, sc: usize) -> Refusal;
             fn $update_scan(
-                m: Map<$n>,
+                m: $head,
                 o: *mut f64,
                 oc: usize,
                 s: *mut u32,
@@ -53,7 +53,7 @@ macro_rules! face {
                 hc: usize,
             ) -> CountAnswer;
             fn $update_beams(
-                m: Map<$n>,
+                m: $head,
                 o: *mut f64,
                 oc: usize,
                 s: *mut u32,
@@ -61,15 +61,15 @@ macro_rules! face {
                 b: *const Beam<$n>,
                 bc: usize,
             ) -> CountAnswer;
-            fn $update_ray(m: Map<$n>, o: *mut f64, oc: usize, s: *mut u32, sc: usize, b: Beam<$n>) -> CountAnswer;
-            fn $mark_free(m: Map<$n>, o: *mut f64, oc: usize, s: *mut u32, sc: usize, c: Cell<$n>) -> MarkAnswer;
-            fn $mark_occupied(m: Map<$n>, o: *mut f64, oc: usize, s: *mut u32, sc: usize, c: Cell<$n>) -> MarkAnswer;
-            fn $set_log_odds(m: Map<$n>, o: *mut f64, oc: usize, c: Cell<$n>, v: f64) -> Refusal;
-            fn $set_log_odds_checked(m: Map<$n>, o: *mut f64, oc: usize, c: Cell<$n>, v: f64) -> Refusal;
-            fn $log_odds_at(m: Map<$n>, o: *const f64, oc: usize, c: Cell<$n>) -> OddsAnswer;
-            fn $sample_log_odds(m: Map<$n>, o: *const f64, oc: usize, p: Point<$n>) -> SampleAnswer<$n>;
+            fn $update_ray(m: $head, o: *mut f64, oc: usize, s: *mut u32, sc: usize, b: Beam<$n>) -> CountAnswer;
+            fn $mark_free(m: $head, o: *mut f64, oc: usize, s: *mut u32, sc: usize, c: Cell<$n>) -> MarkAnswer;
+            fn $mark_occupied(m: $head, o: *mut f64, oc: usize, s: *mut u32, sc: usize, c: Cell<$n>) -> MarkAnswer;
+            fn $set_log_odds(m: $head, o: *mut f64, oc: usize, c: Cell<$n>, v: f64) -> Refusal;
+            fn $set_log_odds_checked(m: $head, o: *mut f64, oc: usize, c: Cell<$n>, v: f64) -> Refusal;
+            fn $log_odds_at(m: $head, o: *const f64, oc: usize, c: Cell<$n>) -> OddsAnswer;
+            fn $sample_log_odds(m: $head, o: *const f64, oc: usize, p: Point<$n>) -> SampleAnswer<$n>;
             fn $sample_all_log_odds(
-                m: Map<$n>,
+                m: $head,
                 o: *const f64,
                 oc: usize,
                 p: *const f64,
@@ -79,7 +79,7 @@ macro_rules! face {
                 f: *mut u8,
                 fc: usize,
             ) -> Refusal;
-            fn $cell_containing(m: Map<$n>, p: Point<$n>) -> CellAnswer<$n>;
+            fn $cell_containing(m: $head, p: Point<$n>) -> CellAnswer<$n>;
             fn $plotter(s: Point<$n>, e: Point<$n>) -> LineAnswer<$n>;
             fn $step(l: Line<$n>) -> StepAnswer<$n>;
         }
@@ -87,53 +87,56 @@ macro_rules! face {
         // Each call below lends whole slices, and a head that is there, which is all that the header asks.
         impl Face<$n> for Tembuzar {
             fn new(e: Extents<$n>, m: Model, o: &mut [f64], s: &mut [u32]) -> MapAnswer<$n> {
-                unsafe { $new(e, m, o.as_mut_ptr(), o.len(), s.as_mut_ptr(), s.len()) }
+                let answer = unsafe { $new(e, e.steps(m), o.as_mut_ptr(), o.len(), s.as_mut_ptr(), s.len()) };
+                HeadAnswer { refusal: answer.refusal, map: Map::<$n>::back(answer.map) }
             }
             fn reset(m: Map<$n>, o: &mut [f64], s: &mut [u32]) -> MapAnswer<$n> {
-                unsafe { $reset(m, o.as_mut_ptr(), o.len(), s.as_mut_ptr(), s.len()) }
+                let answer = unsafe { $reset(m.cross(), o.as_mut_ptr(), o.len(), s.as_mut_ptr(), s.len()) };
+                HeadAnswer { refusal: answer.refusal, map: Map::<$n>::back(answer.map) }
             }
             fn begin_scan(m: Map<$n>, s: &mut [u32]) -> MapAnswer<$n> {
-                unsafe { $begin_scan(m, s.as_mut_ptr(), s.len()) }
+                let answer = unsafe { $begin_scan(m.cross(), s.as_mut_ptr(), s.len()) };
+                HeadAnswer { refusal: answer.refusal, map: Map::<$n>::back(answer.map) }
             }
             fn open_scan(m: &mut Map<$n>, s: &mut [u32]) -> Refusal {
-                unsafe { $open_scan(m, s.as_mut_ptr(), s.len()) }
+                m.lend(|head| unsafe { $open_scan(head, s.as_mut_ptr(), s.len()) })
             }
             fn update_scan(m: Map<$n>, o: &mut [f64], s: &mut [u32], n: &[f64], h: &[u8]) -> CountAnswer {
                 let (oc, sc, nc, hc) = (o.len(), s.len(), n.len(), h.len());
-                unsafe { $update_scan(m, o.as_mut_ptr(), oc, s.as_mut_ptr(), sc, n.as_ptr(), nc, h.as_ptr(), hc) }
+                unsafe { $update_scan(m.cross(), o.as_mut_ptr(), oc, s.as_mut_ptr(), sc, n.as_ptr(), nc, h.as_ptr(), hc) }
             }
             fn update_beams(m: Map<$n>, o: &mut [f64], s: &mut [u32], b: &[Beam<$n>]) -> CountAnswer {
-                unsafe { $update_beams(m, o.as_mut_ptr(), o.len(), s.as_mut_ptr(), s.len(), b.as_ptr(), b.len()) }
+                unsafe { $update_beams(m.cross(), o.as_mut_ptr(), o.len(), s.as_mut_ptr(), s.len(), b.as_ptr(), b.len()) }
             }
             fn update_ray(m: Map<$n>, o: &mut [f64], s: &mut [u32], b: Beam<$n>) -> CountAnswer {
-                unsafe { $update_ray(m, o.as_mut_ptr(), o.len(), s.as_mut_ptr(), s.len(), b) }
+                unsafe { $update_ray(m.cross(), o.as_mut_ptr(), o.len(), s.as_mut_ptr(), s.len(), b) }
             }
             fn mark_free(m: Map<$n>, o: &mut [f64], s: &mut [u32], c: Cell<$n>) -> MarkAnswer {
-                unsafe { $mark_free(m, o.as_mut_ptr(), o.len(), s.as_mut_ptr(), s.len(), c) }
+                unsafe { $mark_free(m.cross(), o.as_mut_ptr(), o.len(), s.as_mut_ptr(), s.len(), c) }
             }
             fn mark_occupied(m: Map<$n>, o: &mut [f64], s: &mut [u32], c: Cell<$n>) -> MarkAnswer {
-                unsafe { $mark_occupied(m, o.as_mut_ptr(), o.len(), s.as_mut_ptr(), s.len(), c) }
+                unsafe { $mark_occupied(m.cross(), o.as_mut_ptr(), o.len(), s.as_mut_ptr(), s.len(), c) }
             }
             fn set_log_odds(m: Map<$n>, o: &mut [f64], c: Cell<$n>, v: f64) -> Refusal {
-                unsafe { $set_log_odds(m, o.as_mut_ptr(), o.len(), c, v) }
+                unsafe { $set_log_odds(m.cross(), o.as_mut_ptr(), o.len(), c, v) }
             }
             fn set_log_odds_checked(m: Map<$n>, o: &mut [f64], c: Cell<$n>, v: f64) -> Refusal {
-                unsafe { $set_log_odds_checked(m, o.as_mut_ptr(), o.len(), c, v) }
+                unsafe { $set_log_odds_checked(m.cross(), o.as_mut_ptr(), o.len(), c, v) }
             }
             fn log_odds_at(m: Map<$n>, o: &[f64], c: Cell<$n>) -> OddsAnswer {
-                unsafe { $log_odds_at(m, o.as_ptr(), o.len(), c) }
+                unsafe { $log_odds_at(m.cross(), o.as_ptr(), o.len(), c) }
             }
             fn sample_log_odds(m: Map<$n>, o: &[f64], p: Point<$n>) -> SampleAnswer<$n> {
-                unsafe { $sample_log_odds(m, o.as_ptr(), o.len(), p) }
+                unsafe { $sample_log_odds(m.cross(), o.as_ptr(), o.len(), p) }
             }
             fn sample_all_log_odds(m: Map<$n>, o: &[f64], p: &[f64], s: &mut [f64], f: &mut [u8]) -> Refusal {
                 let (oc, pc, sc, fc) = (o.len(), p.len(), s.len(), f.len());
                 unsafe {
-                    $sample_all_log_odds(m, o.as_ptr(), oc, p.as_ptr(), pc, s.as_mut_ptr(), sc, f.as_mut_ptr(), fc)
+                    $sample_all_log_odds(m.cross(), o.as_ptr(), oc, p.as_ptr(), pc, s.as_mut_ptr(), sc, f.as_mut_ptr(), fc)
                 }
             }
             fn cell_containing(m: Map<$n>, p: Point<$n>) -> CellAnswer<$n> {
-                unsafe { $cell_containing(m, p) }
+                unsafe { $cell_containing(m.cross(), p) }
             }
             fn plotter(s: Point<$n>, e: Point<$n>) -> LineAnswer<$n> {
                 unsafe { $plotter(s, e) }
@@ -147,6 +150,8 @@ macro_rules! face {
 
 face!(
     2,
+    Map<2>,
+    Model,
     tembuzar_new2,
     tembuzar_reset2,
     tembuzar_begin_scan2,
@@ -167,6 +172,8 @@ face!(
 );
 face!(
     3,
+    Map3,
+    Bands,
     tembuzar_new3,
     tembuzar_reset3,
     tembuzar_begin_scan3,

@@ -40,12 +40,104 @@ pub struct Axis {
 #[derive(Clone, Copy, Debug)]
 pub struct Extents<const N: usize>(pub [u64; N]);
 
+/// A head. The header's for two axes, which crosses as it stands; for three it becomes a `Map3` on its way: the original has
+/// one pair of steps, so every band has it, and the cuts do not matter.
 #[repr(C)]
 #[derive(Clone, Copy, Debug)]
 pub struct Map<const N: usize> {
     pub extents: Extents<N>,
     pub model: Model,
     pub frame: u32,
+}
+
+#[repr(C)]
+#[derive(Clone, Copy, Debug, PartialEq)]
+pub struct Pair {
+    pub occupied: c_double,
+    pub free: c_double,
+}
+
+#[repr(C)]
+#[derive(Clone, Copy, Debug, PartialEq, Eq)]
+pub struct Cuts {
+    pub first: u64,
+    pub second: u64,
+}
+
+#[repr(C)]
+#[derive(Clone, Copy, Debug)]
+pub struct Bands {
+    pub low: Pair,
+    pub middle: Pair,
+    pub high: Pair,
+    pub ceiling: c_double,
+    pub cuts: Cuts,
+}
+
+/// The header's head of three axes.
+#[repr(C)]
+#[derive(Clone, Copy, Debug)]
+pub struct Map3 {
+    pub extents: Extents<3>,
+    pub bands: Bands,
+    pub frame: u32,
+}
+
+impl Extents<2> {
+    pub fn steps(self, model: Model) -> Model {
+        model
+    }
+}
+
+impl Extents<3> {
+    /// Cuts that fit where the last extent is 3 or more.
+    pub fn cuts(self) -> Cuts {
+        let more = self.0[2].saturating_sub(3) / 4;
+        Cuts { first: 1 + more, second: 2 + 2 * more }
+    }
+
+    pub fn steps(self, model: Model) -> Bands {
+        let pair = Pair { occupied: model.occupied, free: model.free };
+        Bands { low: pair, middle: pair, high: pair, ceiling: model.ceiling, cuts: self.cuts() }
+    }
+}
+
+impl Map<2> {
+    pub fn cross(self) -> Map<2> {
+        self
+    }
+
+    pub fn back(map: Map<2>) -> Map<2> {
+        map
+    }
+
+    pub fn lend<R>(&mut self, call: impl FnOnce(*mut Map<2>) -> R) -> R {
+        call(self)
+    }
+}
+
+impl Map<3> {
+    pub fn cross(self) -> Map3 {
+        Map3 { extents: self.extents, bands: self.extents.steps(self.model), frame: self.frame }
+    }
+
+    /// A head that comes back has the bands that went over, or none at all.
+    pub fn back(map: Map3) -> Map<3> {
+        let Bands { low, middle, high, ceiling, cuts } = map.bands;
+        let bits = |p: Pair| (p.occupied.to_bits(), p.free.to_bits());
+        let none = Cuts { first: 0, second: 0 };
+        assert!(bits(low) == bits(middle) && bits(low) == bits(high), "bands that differ came back");
+        assert!(cuts == map.extents.cuts() || (cuts == none && map.extents.0 == [0; 3]), "other cuts came back");
+        let model = Model { occupied: low.occupied, free: low.free, ceiling };
+        Map { extents: map.extents, model, frame: map.frame }
+    }
+
+    pub fn lend<R>(&mut self, call: impl FnOnce(*mut Map3) -> R) -> R {
+        let mut head = self.cross();
+        let answer = call(&mut head);
+        *self = Map::<3>::back(head);
+        answer
+    }
 }
 
 #[repr(C)]
@@ -102,12 +194,15 @@ pub struct OddsAnswer {
     pub odds: c_double,
 }
 
+/// The header's answer that holds a head.
 #[repr(C)]
 #[derive(Clone, Copy, Debug)]
-pub struct MapAnswer<const N: usize> {
+pub struct HeadAnswer<H> {
     pub refusal: Refusal,
-    pub map: Map<N>,
+    pub map: H,
 }
+
+pub type MapAnswer<const N: usize> = HeadAnswer<Map<N>>;
 
 #[repr(C)]
 #[derive(Clone, Copy, Debug)]
@@ -148,16 +243,16 @@ mod tests {
     #[test]
     fn structs_lie_as_in_c() {
         assert_eq!(size_of::<Refusal>(), 56);
-        assert_eq!((size_of::<Map<2>>(), size_of::<Map<3>>()), (48, 56));
+        assert_eq!((size_of::<Map<2>>(), size_of::<Map3>()), (48, 104));
         assert_eq!((size_of::<Beam<2>>(), size_of::<Beam<3>>()), (40, 56));
         assert_eq!((size_of::<Line<2>>(), size_of::<Line<3>>()), (104, 144));
         assert_eq!((size_of::<MarkAnswer>(), size_of::<CountAnswer>(), size_of::<OddsAnswer>()), (64, 64, 72));
-        assert_eq!((size_of::<MapAnswer<2>>(), size_of::<MapAnswer<3>>()), (104, 112));
+        assert_eq!((size_of::<MapAnswer<2>>(), size_of::<HeadAnswer<Map3>>()), (104, 160));
         assert_eq!((size_of::<CellAnswer<2>>(), size_of::<CellAnswer<3>>()), (72, 80));
         assert_eq!((size_of::<SampleAnswer<2>>(), size_of::<SampleAnswer<3>>()), (88, 96));
         assert_eq!((size_of::<LineAnswer<2>>(), size_of::<LineAnswer<3>>()), (160, 200));
         assert_eq!((size_of::<StepAnswer<2>>(), size_of::<StepAnswer<3>>()), (128, 176));
-        assert_eq!((offset_of!(Map<2>, frame), offset_of!(Map<3>, frame)), (40, 48));
+        assert_eq!((offset_of!(Map<2>, frame), offset_of!(Map3, frame)), (40, 96));
         assert_eq!((offset_of!(Beam<2>, hit), offset_of!(Beam<3>, hit)), (32, 48));
         assert_eq!((offset_of!(OddsAnswer, odds), offset_of!(SampleAnswer<2>, sample)), (64, 64));
         assert_eq!(align_of::<Beam<2>>(), 8);

@@ -3,6 +3,7 @@
 mod added;
 mod alone;
 mod answers;
+mod bands;
 mod bench;
 mod check;
 mod draw;

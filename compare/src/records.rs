@@ -6,11 +6,11 @@ use std::time::Instant;
 
 use oracle::generate::Rng;
 
-use crate::ffi::{CountAnswer, Extents, Map, MapAnswer, Model};
+use crate::ffi::{CountAnswer, Cuts, Extents, HeadAnswer, Map, Map3, MapAnswer, Model};
 
 unsafe extern "C" {
     fn tembuzar_write_record2(map: Map<2>, odds: *const f64, cells: usize, out: *mut u8, bytes: usize) -> CountAnswer;
-    fn tembuzar_write_record3(map: Map<3>, odds: *const f64, cells: usize, out: *mut u8, bytes: usize) -> CountAnswer;
+    fn tembuzar_write_record3(map: Map3, odds: *const f64, cells: usize, out: *mut u8, bytes: usize) -> CountAnswer;
     fn tembuzar_read_record2(
         bytes: *const u8,
         count: usize,
@@ -22,11 +22,12 @@ unsafe extern "C" {
     fn tembuzar_read_record3(
         bytes: *const u8,
         count: usize,
+        cuts: Cuts,
         odds: *mut f64,
         cells: usize,
         stamps: *mut u32,
         stamps_count: usize,
-    ) -> MapAnswer<3>;
+    ) -> HeadAnswer<Map3>;
 }
 
 /// The record's bytes; 0 where the map was refused.
@@ -36,17 +37,17 @@ trait Recorded: Copy {
 }
 
 macro_rules! recorded {
-    ($n:literal, $write:ident, $read:ident) => {
+    ($n:literal, $write:ident, $read:ident $(, $cuts:expr)?) => {
         impl Recorded for Map<$n> {
             fn write(self, odds: &[f64], out: &mut [u8]) -> u64 {
                 // SAFETY: each list is handed over with its own length, and none overlaps another.
-                unsafe { $write(self, odds.as_ptr(), odds.len(), out.as_mut_ptr(), out.len()).count }
+                unsafe { $write(self.cross(), odds.as_ptr(), odds.len(), out.as_mut_ptr(), out.len()).count }
             }
 
             fn read(bytes: &[u8], odds: &mut [f64], stamps: &mut [u32]) -> bool {
                 // SAFETY: as above.
                 let answer = unsafe {
-                    $read(bytes.as_ptr(), bytes.len(), odds.as_mut_ptr(), odds.len(), stamps.as_mut_ptr(), stamps.len())
+                    $read(bytes.as_ptr(), bytes.len(), $($cuts,)? odds.as_mut_ptr(), odds.len(), stamps.as_mut_ptr(), stamps.len())
                 };
                 answer.refusal.number == 0
             }
@@ -55,7 +56,7 @@ macro_rules! recorded {
 }
 
 recorded!(2, tembuzar_write_record2, tembuzar_read_record2);
-recorded!(3, tembuzar_write_record3, tembuzar_read_record3);
+recorded!(3, tembuzar_write_record3, tembuzar_read_record3, Cuts { first: 1, second: 2 });
 
 /// The median of the nanoseconds that a turn takes, the first one aside.
 fn median(rounds: usize, mut turn: impl FnMut()) -> f64 {

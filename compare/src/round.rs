@@ -3,6 +3,7 @@
 use crate::added;
 use crate::alone;
 use crate::answers::Verdict;
+use crate::bands;
 use crate::check::Work;
 use crate::draw;
 use crate::face::Face;
@@ -39,6 +40,9 @@ pub fn round<L: Face<N>, const N: usize>(
     tally.large_maps += u64::from(large);
     let longest = state.extents.iter().max().map_or(0, |&e| e as u64);
     tally.longest_axis = tally.longest_axis.max(longest);
+    if N == 3 {
+        bands::unequal(&mut rng, tally).map_err(|words| Difference { call: 0, words })?;
+    }
     let mut work = Work::new(rng, Pair::of(&state), tally);
     drop(state);
     for call in 0..calls {

@@ -24,6 +24,7 @@ pub struct Tally {
     pub lines: u64,
     pub steps: u64,
     pub added: u64,
+    pub banded: u64,
     pub large_maps: u64,
     pub cells_compared: u64,
     pub longest_axis: u64,
@@ -55,6 +56,7 @@ impl Tally {
         line("new maps", self.news, "");
         line("lines", self.lines, &format!("({} steps)", self.steps));
         line("added refusals", self.added, "");
+        line("beams on unequal bands", self.banded, "");
         line("pairs of odds and stamp", self.cells_compared, "");
     }
 }

@@ -200,7 +200,7 @@ where
     WRONG.set(what);
     let mut tally = Tally::default();
     let run = |number| round::<Wrong, N>(5, number, None, &mut tally);
-    (0..100).map(run).find_map(|answer| answer.err().map(|difference| difference.words))
+    (0..400).map(run).find_map(|answer| answer.err().map(|difference| difference.words))
 }
 
 /// For both numbers of axes: the difference is found, in a call of this kind.

@@ -11,7 +11,7 @@ use borrow.Author.Tests.{eq-eqb, ne-eqb}
 use Rattle.rules.specs.RefusalNumbers.{given}
 use Rattle.rules.specs.RefusalNumbers.Entries.{Outcome}
 use Rattle.rules.specs.TheGridAndItsBounds.{Model, Grid}
-use Rattle.rules.specs.MarksAndFrames.{Mark, markAt, withCell, marked, changes, stepsAt}
+use Rattle.rules.specs.MarksAndFrames.{Steps, Marked, Mark, markAt, withCell, marked, changes, stepsAt}
 use Rattle.laws.specs.MarkLists.{marked-append, changes-append}
 use Rattle.laws.specs.Room.{room, room-set, mark-lowers}
 use Rattle.marks.specs.Marking.{gridOf, markOn, MarkedAt}
@@ -54,6 +54,19 @@ module _ (m : Model) (k : ℕ) where
         grid = q .grid ∙ ap (marked binary64 m k ys) (p .grid) ∙ sym (marked-append binary64 m k xs ys (gridOf odds stamps));
         used = omega arith;
       }
+
+-- a model that has the same steps at the place marks it the same
+pub one-alike : (m n : Model) (k at : ℕ) (occupied : Bool) (odds odds′ : List Float) (stamps stamps′ : List ℕ) (r : ℕ) → stepsAt m at ≡ stepsAt n at
+    → Applied (one at occupied) m k odds stamps r odds′ stamps′ → Applied (one at occupied) n k odds stamps r odds′ stamps′
+unfolding marked changes markAt
+one-alike m n k at occupied odds odds′ stamps stamps′ r e a =
+    let g = gridOf odds stamps in
+    let marking : (Steps → Marked) = λ s. markOn occupied s k at odds stamps in
+    record {
+      count = a .count ∙ ap (λ (s : Steps). cond (marking s .changed) 1 0 + 0) e;
+      grid = a .grid ∙ ap (λ (s : Steps). withCell g at (marking s .cell)) e;
+      used = a .used;
+    }
 
 -- one mark's count says whether it changed the cell
 changed-by-count : (b : Bool) (n : ℕ) → n ≡ cond b 1 0 + 0 → eqb n 1 ≡ b

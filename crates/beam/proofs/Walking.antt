@@ -32,6 +32,7 @@ pub still-ready : (h : Head) (xs : List Mark) (odds odds′ : List Float) (stamp
 still-ready h xs odds odds′ stamps stamps′ n r a =
     record {
       extents = r .extents;
+      cuts = r .cuts;
       odds-count = ap (λ (g : Grid). length (g .odds)) (a .grid) ∙ marked-odds binary64 (h .model) (h .frame) xs (gridOf odds stamps) ∙ r .odds-count;
       stamps-count = ap (λ (g : Grid). length (g .stamps)) (a .grid) ∙ marked-stamps binary64 (h .model) (h .frame) xs (gridOf odds stamps) ∙ r .stamps-count;
       frame = r .frame;

@@ -6,7 +6,7 @@ ghost use lib.ListN.{length};
 ghost use Rattle.laws.specs.Checks.{Ready};
 ghost use Rattle.rules.specs.OneBeam.{marksBetween, integratedMarks, integratedBeam};
 ghost use Rattle.types.specs.Beams.{isHit, beam2, beam3};
-ghost use Rattle.types.specs.Models.{modelOf};
+ghost use Rattle.types.specs.Models.{modelOf, bandsOf};
 ghost use Rattle.types.specs.Points.{extents2, extents3};
 ghost use Rattle.clip.specs.Clips.{clip2, clip3};
 ghost use Rattle.grid_map.specs.Heads.{head2, head3};
@@ -107,7 +107,7 @@ fn integrate_clipped3(
     hit: bool,
 ) -> CountAnswer
     requires { ⌜ Ready (head3 map) (length (now odds)) (length (now stamps)) ⌝ }
-    ensures { λ r. ⌜ Beamed (integratedMarks binary64 (modelOf (map .model)) (map .frame .0) (gridOf (now (odds .entry)) (now (stamps .entry)))
+    ensures { λ r. ⌜ Beamed (integratedMarks binary64 (bandsOf (map .extents) (map .bands)) (map .frame .0) (gridOf (now (odds .entry)) (now (stamps .entry)))
         (marksBetween binary64 (extents3 (map .extents)) hit (clip3 clip))) (map .frame .0)
         (now (stamps .entry)) r (now (odds .exit)) (now (stamps .exit)) ⌝ }
 {
@@ -134,7 +134,7 @@ pub fn integrate3(
     beam: ScanBeam3,
 ) -> CountAnswer
     requires { ⌜ Ready (head3 map) (length (now odds)) (length (now stamps)) ⌝ }
-    ensures { λ r. ⌜ Beamed (integratedBeam binary64 (extents3 (map .extents)) (modelOf (map .model)) (map .frame .0) (beam3 beam)
+    ensures { λ r. ⌜ Beamed (integratedBeam binary64 (extents3 (map .extents)) (bandsOf (map .extents) (map .bands)) (map .frame .0) (beam3 beam)
         (gridOf (now (odds .entry)) (now (stamps .entry)))) (map .frame .0) (now (stamps .entry)) r (now (odds .exit)) (now (stamps .exit)) ⌝ }
 {
     let origin = beam.origin;

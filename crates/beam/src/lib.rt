@@ -8,3 +8,4 @@ mod walk;
 pub use beam::integrate2;
 pub use beam::integrate3;
 pub use marking::mark_place;
+pub use marking::mark_place3;

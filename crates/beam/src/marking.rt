@@ -6,13 +6,14 @@ ghost use Rattle.rules.specs.Coordinates.{flatIndex};
 ghost use Rattle.rules.specs.MarksAndFrames.{highestFrame};
 ghost use Rattle.rules.specs.OneBeam.{markOf};
 ghost use Rattle.types.specs.Points.{cell2, cell3, extents2, extents3};
-ghost use Rattle.types.specs.Models.{modelOf};
+ghost use Rattle.types.specs.Models.{modelOf, bandsOf};
 ghost use Rattle.grid_map.specs.Heads.{head2, head3};
 ghost use Rattle.beam.specs.Applying.{Applied, one};
 use grid_map::GridMap2;
 use grid_map::GridMap3;
 use marks::mark_free_at;
 use marks::mark_occupied_at;
+use marks::model_at;
 use marks::steps_at;
 use places::Place;
 use places::translate_to_index2;
@@ -48,7 +49,23 @@ pub fn mark_place(
     0
 }
 
-// A head that has passed its checks, with lists of one number per cell: the entries refuse others with 1 to 4 and 9.
+// The same on a map of three axes, whose cell has its band's model. On a head that has passed its checks.
+pub fn mark_place3(
+    map: GridMap3,
+    odds: &mut [f64],
+    stamps: &mut [u32],
+    at: usize,
+    occupied: bool,
+) -> u64
+    requires { ⌜ Ready (head3 map) (length (now odds)) (length (now stamps)) ⌝ ∗ ⌜ at < length (now odds) ⌝ }
+    ensures { λ r. ⌜ Applied (one at occupied) (bandsOf (map .extents) (map .bands)) (map .frame .0)
+        (now (odds .entry)) (now (stamps .entry)) r (now (odds .exit)) (now (stamps .exit)) ⌝ }
+{
+    let model = model_at(map.extents, map.bands, at);
+    mark_place(odds, stamps, at, model, map.frame, occupied)
+}
+
+// A head that has passed its checks, with lists of one number per cell: the entries refuse others with 1 to 4, 9 and 15.
 pub fn mark_cell2(
     map: GridMap2,
     odds: &mut [f64],
@@ -75,11 +92,11 @@ pub fn mark_cell3(
     occupied: bool,
 ) -> u64
     requires { ⌜ Ready (head3 map) (length (now odds)) (length (now stamps)) ⌝ }
-    ensures { λ r. ⌜ Applied (markOf occupied (flatIndex (extents3 (map .extents)) (cell3 cell))) (modelOf (map .model)) (map .frame .0)
+    ensures { λ r. ⌜ Applied (markOf occupied (flatIndex (extents3 (map .extents)) (cell3 cell))) (bandsOf (map .extents) (map .bands)) (map .frame .0)
         (now (odds .entry)) (now (stamps .entry)) r (now (odds .exit)) (now (stamps .exit)) ⌝ }
 {
     match translate_to_index3(map.extents, cell) {
         Place::Refused(_) => 0,
-        Place::At(i) => mark_place(odds, stamps, i, map.model, map.frame, occupied),
+        Place::At(i) => mark_place3(map, odds, stamps, i, occupied),
     }
 }

@@ -9,7 +9,7 @@ ghost use Rattle.laws.specs.Following.{Drawn};
 ghost use Rattle.rules.specs.TheLine.{lineCells};
 ghost use Rattle.rules.specs.OneBeam.{marksAlong};
 ghost use Rattle.types.specs.Points.{extents2, extents3};
-ghost use Rattle.types.specs.Models.{modelOf};
+ghost use Rattle.types.specs.Models.{modelOf, bandsOf};
 ghost use Rattle.bresenham.specs.Lines.{line2, line3};
 ghost use Rattle.grid_map.specs.Heads.{head2, head3};
 ghost use Rattle.beam.specs.Applying.{Applied};
@@ -69,7 +69,7 @@ fn walk3(
     occupied: bool,
 ) -> u64
     requires { ⌜ Ready (head3 map) (length (now odds)) (length (now stamps)) ⌝ }
-    ensures { λ r. ⌜ Applied (marksAlong (extents3 (map .extents)) occupied (lineCells binary64 (line3 line))) (modelOf (map .model)) (map .frame .0)
+    ensures { λ r. ⌜ Applied (marksAlong (extents3 (map .extents)) occupied (lineCells binary64 (line3 line))) (bandsOf (map .extents) (map .bands)) (map .frame .0)
         (now (odds .entry)) (now (stamps .entry)) r (now (odds .exit)) (now (stamps .exit)) ⌝ }
 {
     let mut rest = line;
@@ -116,7 +116,7 @@ pub fn walk_drawn3(
     occupied: bool,
 ) -> u64
     requires { ⌜ Ready (head3 map) (length (now odds)) (length (now stamps)) ⌝ ∗ ⌜ Drawn (line3 line) ⌝ }
-    ensures { λ r. ⌜ Applied (marksAlong (extents3 (map .extents)) occupied (lineCells binary64 (line3 line))) (modelOf (map .model)) (map .frame .0)
+    ensures { λ r. ⌜ Applied (marksAlong (extents3 (map .extents)) occupied (lineCells binary64 (line3 line))) (bandsOf (map .extents) (map .bands)) (map .frame .0)
         (now (odds .entry)) (now (stamps .entry)) r (now (odds .exit)) (now (stamps .exit)) ⌝ }
 {
     let part = follow3(map, odds, stamps, line);

@@ -15,6 +15,8 @@ use Rattle.types.specs.declared.points.Cell3.{Cell3}
 use Rattle.types.specs.declared.points.Extents2.{Extents2}
 use Rattle.types.specs.declared.points.Extents3.{Extents3}
 use Rattle.types.specs.declared.model.Model.{Model}
+use Rattle.types.specs.declared.model.Pair.{Pair}
+use Rattle.types.specs.declared.model.Bands.{Bands}
 use Rattle.types.specs.declared.samples.MapSample2.{MapSample2}
 use Rattle.types.specs.declared.samples.MapSample3.{MapSample3}
 use Rattle.grid_map.specs.declared.map2.GridMap2.{GridMap2}
@@ -42,13 +44,30 @@ abbrev pub vectorOf3 : List Float → Vector3
 vectorOf3 v = record { x = getD v 0 zeroF; y = getD v 1 zeroF; z = getD v 2 zeroF }
 
 abbrev pub modelFrom : Grid.Model → Model
-modelFrom m = record { occupied = m .occupied; free = m .free; ceiling = m .ceiling }
+modelFrom m = record { occupied = m .lowest .occupied; free = m .lowest .free; ceiling = m .ceiling }
+
+-- a band above the lowest, by how many lie between; where there is none, it has the lowest one's pair
+abbrev bandFrom : Grid.Model → ℕ → Grid.Band
+bandFrom m i = getD (m .above) i (record { cut = 0; pair = m .lowest })
+
+abbrev pairFrom : Grid.Pair → Pair
+pairFrom p = record { occupied = p .occupied; free = p .free }
+
+abbrev pub bandsFrom : Grid.Model → Bands
+bandsFrom m =
+    record {
+      low = pairFrom (m .lowest);
+      middle = pairFrom (bandFrom m 0 .pair);
+      high = pairFrom (bandFrom m 1 .pair);
+      ceiling = m .ceiling;
+      cuts = record { first = bandFrom m 0 .cut; second = bandFrom m 1 .cut };
+    }
 
 abbrev pub mapOf2 : Grid.Head → GridMap2
 mapOf2 h = record { extents = extentsOf2 (h .extents); model = modelFrom (h .model); frame = record { 0 = h .frame } }
 
 abbrev pub mapOf3 : Grid.Head → GridMap3
-mapOf3 h = record { extents = extentsOf3 (h .extents); model = modelFrom (h .model); frame = record { 0 = h .frame } }
+mapOf3 h = record { extents = extentsOf3 (h .extents); bands = bandsFrom (h .model); frame = record { 0 = h .frame } }
 
 abbrev pub sampleOf2 : Sample → MapSample2
 sampleOf2 s = record { value = s .value; gradient = vectorOf2 (s .gradient) }
@@ -58,7 +77,7 @@ sampleOf3 s = record { value = s .value; gradient = vectorOf3 (s .gradient) }
 
 -- the values that stand for nothing
 abbrev pub noModel : Grid.Model
-noModel = record { occupied = zeroF; free = zeroF; ceiling = zeroF }
+noModel = Grid.plainModel (record { occupied = zeroF; free = zeroF }) zeroF
 
 abbrev pub noMap : Grid.Head
 noMap = record { extents = []; model = noModel; frame = 0 }

@@ -9,12 +9,14 @@ use crate::refusals::bare;
 use crate::refusals::refusal_to_c;
 use grid_map::GridMap3;
 use grid_map::MapAnswer3;
+use types::Bands;
 use types::Cell3;
 use types::CellAnswer3;
+use types::Cuts;
 use types::Extents3;
 use types::Frame;
 use types::MapSample3;
-use types::Model;
+use types::Pair;
 use types::SampleAnswer3;
 use types::SampleRead3;
 use types::Vector3;
@@ -41,12 +43,22 @@ pub struct CSampleAnswer3 {
     pub sample: MapSample3,
 }
 
+const NO_PAIR: Pair = Pair {
+    occupied: 0.0,
+    free: 0.0,
+};
+
 const NO_MAP: GridMap3 = GridMap3 {
     extents: Extents3 { x: 0, y: 0, z: 0 },
-    model: Model {
-        occupied: 0.0,
-        free: 0.0,
+    bands: Bands {
+        low: NO_PAIR,
+        middle: NO_PAIR,
+        high: NO_PAIR,
         ceiling: 0.0,
+        cuts: Cuts {
+            first: 0,
+            second: 0,
+        },
     },
     frame: Frame(0),
 };

@@ -118,5 +118,6 @@ pub fn refusal_to_c(refusal: Refusal) -> CRefusal
         Refusal::Sweep { offset } => in_record(12, offset),
         Refusal::Odds => bare(13),
         Refusal::Lists => bare(14),
+        Refusal::Cuts => bare(15),
     }
 }

@@ -1,13 +1,14 @@
-// The checks of a map's head, in document 01's order: 1 on all axes, 2, then what the entry uses of 3, 4 and 9.
+// The checks of a map's head, in document 01's order: 1 on all axes, 2, then what the entry uses of 3, 4 and 9; by change request 6 with 15 after 3.
 ghost use mathlib.Core.Path.{_≡_};
 ghost use mathlib.Core.Bool.{not, _&&_};
 ghost use Rattle.rules.specs.RefusalNumbers.Entries.{extentsRefusal, headRefusal};
-ghost use Rattle.rules.specs.TheGridAndItsBounds.{fitsCapacity, bounded};
+ghost use Rattle.rules.specs.TheGridAndItsBounds.{fitsCapacity, bounded, cutsInBounds};
 ghost use Rattle.rules.specs.MarksAndFrames.{openFrame};
 ghost use Rattle.laws.specs.ModelBounds.{sizesBounded};
-ghost use Rattle.types.specs.Models.{modelOf};
+ghost use Rattle.types.specs.Models.{modelOf, bandsOf};
 ghost use Rattle.types.specs.Points.{extents2, extents3};
-ghost use Rattle.checks.specs.Checking.{checkOf, usesOf, usedRefusal, headOf};
+ghost use Rattle.checks.specs.Checking.{checkOf, usesOf, usedRefusal, headOf2, headOf3};
+use types::Bands;
 use types::Extents2;
 use types::Extents3;
 use types::Frame;
@@ -190,11 +191,39 @@ pub fn is_bounded(m: Model) -> bool
 }
 
 fn sizes_bounded(m: Model) -> bool
-    ensures { λ r. ⌜ r ≡ sizesBounded (modelOf m) ⌝ }
+    ensures { λ r. ⌜ r ≡ sizesBounded (m .ceiling) (record { occupied = m .occupied; free = m .free }) ⌝ }
 {
     if m.occupied <= 1_048_576.0 {
         if m.free >= -1_048_576.0 {
             return m.ceiling <= 1_048_576.0;
+        }
+    }
+    false
+}
+
+// The pair of every band, with the ceiling that all have.
+fn all_bounded(e: Extents3, bands: Bands) -> bool
+    ensures { λ r. ⌜ r ≡ bounded (bandsOf e bands) ⌝ }
+{
+    let low = bands.low;
+    let middle = bands.middle;
+    let high = bands.high;
+    if is_bounded(low.with(bands.ceiling)) {
+        if is_bounded(middle.with(bands.ceiling)) {
+            return is_bounded(high.with(bands.ceiling));
+        }
+    }
+    false
+}
+
+// Each band has a height at least: 0 < first < second < extent.
+pub fn cuts_in_bounds(e: Extents3, bands: Bands) -> bool
+    ensures { λ r. ⌜ r ≡ cutsInBounds (extents3 e) (bandsOf e bands) ⌝ }
+{
+    let cuts = bands.cuts;
+    if 0 < cuts.first {
+        if cuts.first < cuts.second {
+            return cuts.second < e.z;
         }
     }
     false
@@ -223,19 +252,23 @@ fn fails(used: bool, holds: bool) -> bool
     false
 }
 
-// What an entry uses beside the extents, of a map of so many cells.
+// What an entry uses beside the extents, of a map of so many cells whose model and cuts are within their bounds or not.
 fn used_check(
     u: Uses,
-    model: Model,
+    model: bool,
+    cuts: bool,
     frame: Frame,
     cells: usize,
     odds: usize,
     stamps: usize,
 ) -> Check
-    ensures { λ r. ⌜ checkOf r ≡ usedRefusal (usesOf u) (modelOf model) (frame .0) cells odds stamps ⌝ }
+    ensures { λ r. ⌜ checkOf r ≡ usedRefusal (usesOf u) model cuts (frame .0) cells odds stamps ⌝ }
 {
-    if fails(u.model, is_bounded(model)) {
+    if fails(u.model, model) {
         return Check::Refused(Refusal::Model);
+    }
+    if fails(u.model, cuts) {
+        return Check::Refused(Refusal::Cuts);
     }
     if fails(u.odds, odds == cells) {
         return Check::Refused(Refusal::Buffer);
@@ -249,6 +282,7 @@ fn used_check(
     Check::Passed
 }
 
+// A map of two axes has no cuts.
 pub fn head_check2(
     u: Uses,
     e: Extents2,
@@ -257,26 +291,42 @@ pub fn head_check2(
     odds: usize,
     stamps: usize,
 ) -> Check
-    ensures { λ r. ⌜ checkOf r ≡ headRefusal (usesOf u) (headOf (extents2 e) model frame) odds stamps ⌝ }
+    ensures { λ r. ⌜ checkOf r ≡ headRefusal (usesOf u) (headOf2 e model frame) odds stamps ⌝ }
 {
     match extents_check2(e) {
         Check::Refused(r) => Check::Refused(r),
-        Check::Passed => used_check(u, model, frame, (e.x * e.y) as usize, odds, stamps),
+        Check::Passed => used_check(
+            u,
+            is_bounded(model),
+            true,
+            frame,
+            (e.x * e.y) as usize,
+            odds,
+            stamps,
+        ),
     }
 }
 
 pub fn head_check3(
     u: Uses,
     e: Extents3,
-    model: Model,
+    bands: Bands,
     frame: Frame,
     odds: usize,
     stamps: usize,
 ) -> Check
-    ensures { λ r. ⌜ checkOf r ≡ headRefusal (usesOf u) (headOf (extents3 e) model frame) odds stamps ⌝ }
+    ensures { λ r. ⌜ checkOf r ≡ headRefusal (usesOf u) (headOf3 e bands frame) odds stamps ⌝ }
 {
     match extents_check3(e) {
         Check::Refused(r) => Check::Refused(r),
-        Check::Passed => used_check(u, model, frame, (e.x * (e.y * e.z)) as usize, odds, stamps),
+        Check::Passed => used_check(
+            u,
+            all_bounded(e, bands),
+            cuts_in_bounds(e, bands),
+            frame,
+            (e.x * (e.y * e.z)) as usize,
+            odds,
+            stamps,
+        ),
     }
 }

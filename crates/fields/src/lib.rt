@@ -4,6 +4,7 @@ mod patterns;
 mod reading;
 mod writing;
 
+pub use patterns::bits_of;
 pub use reading::f64_at;
 pub use reading::field_here;
 pub use reading::u16_at;

@@ -1,7 +1,7 @@
 -- A map's head, and the answers that hold one, are fixed by what they stand for. Each map has a way back. Assumes nothing.
 use mathlib.Core.Path.{_≡_, refl, ap}
 use Rattle.rules.specs.TheGridAndItsBounds.{Head}
-use Rattle.types.proofs.Injective.{Injective, of-back, extents2-back, extents3-back, model-back}
+use Rattle.types.proofs.Injective.{Injective, of-back, extents2-back, extents3-back, model-back, bands-back}
 use Rattle.types.proofs.InjectiveAnswers.{answer-back, refusal-there}
 use Rattle.grid_map.specs.declared.map2.GridMap2.{GridMap2}
 use Rattle.grid_map.specs.declared.map3.GridMap3.{GridMap3}
@@ -13,7 +13,7 @@ abbrev head2-back : Head → GridMap2
 head2-back h = record { extents = extents2-back (h .extents); model = model-back (h .model); frame = record { 0 = h .frame } }
 
 abbrev head3-back : Head → GridMap3
-head3-back h = record { extents = extents3-back (h .extents); model = model-back (h .model); frame = record { 0 = h .frame } }
+head3-back h = record { extents = extents3-back (h .extents); bands = bands-back (h .model); frame = record { 0 = h .frame } }
 
 pub head2-injective : Injective head2
 head2-injective = of-back head2 head2-back (λ a. refl)

@@ -6,7 +6,7 @@ use Rattle.rules.specs.RefusalNumbers.{Answer, given, refused}
 use Rattle.rules.specs.RefusalNumbers.Entries.{Outcome}
 use Rattle.rules.specs.TheGridAndItsBounds.{Head, Grid}
 use Rattle.types.specs.Points.{extents2, extents3}
-use Rattle.types.specs.Models.{modelOf}
+use Rattle.types.specs.Models.{modelOf, bandsOf}
 use Rattle.types.specs.Refusals.{refusalOf}
 use Rattle.types.specs.Answers.{setAnswer}
 use Rattle.types.specs.declared.answers.SetAnswer as SetAnswer
@@ -20,7 +20,7 @@ abbrev pub head2 : GridMap2 → Head
 head2 m = record { extents = extents2 (m .extents); model = modelOf (m .model); frame = m .frame .0 }
 
 abbrev pub head3 : GridMap3 → Head
-head3 m = record { extents = extents3 (m .extents); model = modelOf (m .model); frame = m .frame .0 }
+head3 m = record { extents = extents3 (m .extents); model = bandsOf (m .extents) (m .bands); frame = m .frame .0 }
 
 abbrev pub mapAnswer2 : MapAnswer2.MapAnswer2 → Answer Head
 mapAnswer2 (MapAnswer2.the-variants.Map m) = given (head2 m)

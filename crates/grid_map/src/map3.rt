@@ -5,7 +5,7 @@ ghost use lib.Ieee.{binary64};
 ghost use Rattle.rules.specs.RefusalNumbers.Entries.{headRefusal, newEntry, resetEntry, beginScanEntry};
 ghost use Rattle.rules.specs.RefusalNumbers.Entries.{cellContainingEntry, logOddsAtEntry, sampleLogOddsEntry, setLogOddsEntry, setLogOddsCheckedEntry};
 ghost use Rattle.types.specs.Answers.{cellAnswer3, oddsAnswer, sampleAnswer3};
-ghost use Rattle.types.specs.Models.{modelOf};
+ghost use Rattle.types.specs.Models.{modelOf, bandsOf};
 ghost use Rattle.types.specs.Points.{cell3, extents3, point3};
 ghost use Rattle.checks.specs.Checking.{checkOf, usesOf};
 ghost use Rattle.grid_map.specs.Heads.{head3, mapOutcome3, openOutcome3, setOutcome};
@@ -24,11 +24,11 @@ use places::Place;
 use places::cell_containing3;
 use places::translate_to_index3;
 use sample::sample_log_odds3;
+use types::Bands;
 use types::Cell3;
 use types::CellAnswer3;
 use types::Extents3;
 use types::Frame;
-use types::Model;
 use types::OddsAnswer;
 use types::Point3;
 use types::Refusal;
@@ -38,7 +38,7 @@ use types::SetAnswer;
 #[repr(C)]
 pub struct GridMap3 {
     pub extents: Extents3,
-    pub model: Model,
+    pub bands: Bands,
     pub frame: Frame,
 }
 
@@ -53,30 +53,30 @@ impl GridMap3 {
     pub fn check(self, uses: Uses, odds: usize, stamps: usize) -> Check
         ensures { λ r. ⌜ checkOf r ≡ headRefusal (usesOf uses) (head3 self) odds stamps ⌝ }
     {
-        head_check3(uses, self.extents, self.model, self.frame, odds, stamps)
+        head_check3(uses, self.extents, self.bands, self.frame, odds, stamps)
     }
 
-    // A fresh map of these extents and this model: odds +0.0, stamps 0, frame 1.
-    pub fn new(extents: Extents3, model: Model, odds: &mut [f64], stamps: &mut [u32]) -> MapAnswer3
+    // A fresh map of these extents and bands: odds +0.0, stamps 0, frame 1.
+    pub fn new(extents: Extents3, bands: Bands, odds: &mut [f64], stamps: &mut [u32]) -> MapAnswer3
         ensures { λ r. ⌜ mapOutcome3 r (now (odds .exit)) (now (stamps .exit))
-            ≡ newEntry (extents3 extents) (modelOf model) (gridOf (now (odds .entry)) (now (stamps .entry))) ⌝ }
+            ≡ newEntry (extents3 extents) (bandsOf extents bands) (gridOf (now (odds .entry)) (now (stamps .entry))) ⌝ }
     {
         let frame = Frame(1);
-        match head_check3(Uses::NEW, extents, model, frame, odds.len(), stamps.len()) {
+        match head_check3(Uses::NEW, extents, bands, frame, odds.len(), stamps.len()) {
             Check::Refused(r) => MapAnswer3::Refused(r),
             Check::Passed => {
                 clear_odds(odds);
                 clear_stamps(stamps);
                 MapAnswer3::Map(GridMap3 {
                     extents,
-                    model,
+                    bands,
                     frame,
                 })
             }
         }
     }
 
-    // Every cell back to unknown, with the extents and the model kept.
+    // Every cell back to unknown, with the extents and the bands kept.
     pub fn reset(self, odds: &mut [f64], stamps: &mut [u32]) -> MapAnswer3
         ensures { λ r. ⌜ mapOutcome3 r (now (odds .exit)) (now (stamps .exit))
             ≡ resetEntry (head3 self) (gridOf (now (odds .entry)) (now (stamps .entry))) ⌝ }
@@ -87,10 +87,10 @@ impl GridMap3 {
                 clear_odds(odds);
                 clear_stamps(stamps);
                 let extents = self.extents;
-                let model = self.model;
+                let bands = self.bands;
                 MapAnswer3::Map(GridMap3 {
                     extents,
-                    model,
+                    bands,
                     frame: Frame(1),
                 })
             }
@@ -105,12 +105,12 @@ impl GridMap3 {
             Check::Refused(r) => MapAnswer3::Refused(r),
             Check::Passed => {
                 let extents = self.extents;
-                let model = self.model;
+                let bands = self.bands;
                 let frame = self.frame;
                 open_stamps(frame, stamps);
                 MapAnswer3::Map(GridMap3 {
                     extents,
-                    model,
+                    bands,
                     frame: opened(frame),
                 })
             }
@@ -159,7 +159,7 @@ impl GridMap3 {
             Check::Passed => match translate_to_index3(self.extents, cell) {
                 Place::Refused(r) => SetAnswer::Refused(r),
                 Place::At(i) => {
-                    set_log_odds_at(odds, i, self.model, value);
+                    set_log_odds_at(odds, i, self.bands.lowest(), value);
                     SetAnswer::Done
                 }
             },
@@ -175,7 +175,7 @@ impl GridMap3 {
             Check::Refused(r) => SetAnswer::Refused(r),
             Check::Passed => {
                 let place = translate_to_index3(self.extents, cell);
-                set_checked_at(odds, place, self.model, value)
+                set_checked_at(odds, place, self.bands.lowest(), value)
             }
         }
     }

@@ -10,7 +10,7 @@ use lib.Ieee.Fits.{and-l, and-r}
 use borrow.Author.Tests.{le-leb}
 use Rattle.rules.specs.RefusalNumbers.{Refusal}
 use Rattle.rules.specs.RefusalNumbers.Entries.{firstTooSmall, orElse, unlessHolds, extentsRefusal, Uses, headRefusal, usesOf, marks}
-use Rattle.rules.specs.TheGridAndItsBounds.{Head, leastExtent, mostExtent, mostCells, cells, allAtLeast, allAtMost, fitsCapacity, bounded, onePerCell}
+use Rattle.rules.specs.TheGridAndItsBounds.{Head, leastExtent, mostExtent, mostCells, cells, allAtLeast, allAtMost, fitsCapacity, bounded, cutsInBounds, onePerCell}
 use Rattle.rules.specs.MarksAndFrames.{highestFrame, openFrame}
 
 -- extents in bounds, as facts about numbers
@@ -25,6 +25,7 @@ InBounds es = AxesInBounds es × (cells es ≤ mostCells)
 pub record Passed (u : Uses) (h : Head) (odds stamps : ℕ) : Type 0 where
   pub extents : InBounds (h .extents)
   pub model : T (u .model) → T (bounded (h .model))
+  pub cuts : T (u .model) → T (cutsInBounds (h .extents) (h .model))
   pub odds-count : T (u .odds) → odds ≡ cells (h .extents)
   pub stamps-count : T (u .stamps) → stamps ≡ cells (h .extents)
   pub frame : T (u .frame) → (0 < h .frame) × (h .frame ≤ highestFrame)
@@ -64,12 +65,14 @@ pub passed : (u : Uses) (h : Head) (odds stamps : ℕ) → headRefusal u h odds 
 unfolding headRefusal onePerCell openFrame
 passed u h odds stamps e₀ =
     let e₁ = no-second (extentsRefusal (h .extents)) _ e₀ in
-    let e₂ = no-second (unlessHolds (u .model) (bounded (h .model)) _) _ e₁ in
+    let c₂ = no-second (unlessHolds (u .model) (bounded (h .model)) _) _ e₁ in
+    let e₂ = no-second (unlessHolds (u .model) (cutsInBounds (h .extents) (h .model)) _) _ c₂ in
     let e₃ = no-second (unlessHolds (u .odds) (onePerCell (h .extents) odds) _) _ e₂ in
     let e₄ = no-second (unlessHolds (u .stamps) (onePerCell (h .extents) stamps) _) _ e₃ in
     record {
       extents = extents-passed (h .extents) (no-first (extentsRefusal (h .extents)) _ e₀);
       model = holds-if-used (u .model) (bounded (h .model)) _ (no-first _ _ e₁);
+      cuts = holds-if-used (u .model) (cutsInBounds (h .extents) (h .model)) _ (no-first _ _ c₂);
       odds-count = λ t. eqb→eq odds (cells (h .extents)) (holds-if-used (u .odds) (onePerCell (h .extents) odds) _ (no-first _ _ e₂) t);
       stamps-count = λ t. eqb→eq stamps (cells (h .extents)) (holds-if-used (u .stamps) (onePerCell (h .extents) stamps) _ (no-first _ _ e₃) t);
       frame = λ t. let f = holds-if-used (u .frame) (openFrame (h .frame)) _ e₄ t in
@@ -79,6 +82,7 @@ passed u h odds stamps e₀ =
 -- what marks and beams need of a head that has passed
 pub record Ready (h : Head) (odds stamps : ℕ) : Type 0 where
   pub extents : InBounds (h .extents)
+  pub cuts : T (cutsInBounds (h .extents) (h .model))
   pub odds-count : odds ≡ cells (h .extents)
   pub stamps-count : stamps ≡ cells (h .extents)
   pub frame : h .frame ≤ highestFrame
@@ -86,7 +90,7 @@ pub record Ready (h : Head) (odds stamps : ℕ) : Type 0 where
 pub ready : (h : Head) (odds stamps : ℕ) → headRefusal (usesOf marks) h odds stamps ≡ none → Ready h odds stamps
 ready h odds stamps e =
     let p = passed (usesOf marks) h odds stamps e in
-    record { extents = p .extents; odds-count = p .odds-count tt; stamps-count = p .stamps-count tt; frame = p .frame tt .1 }
+    record { extents = p .extents; cuts = p .cuts tt; odds-count = p .odds-count tt; stamps-count = p .stamps-count tt; frame = p .frame tt .1 }
 
 -- the same as a test: no extent is too small
 pub none-too-small : (es : List ℕ) → AxesInBounds es → allAtLeast leastExtent es ≡ true

@@ -21,7 +21,7 @@ use lib.Dec.{T, eqb}
 use lib.ListN.{length, getD}
 use lib.Ieee.{Float, nan, inf, fin, Format, up, down, binary32, binary64, sub, neg, lt, le, fits}
 use Rattle.rules.specs.RefusalNumbers.{given}
-use Rattle.rules.specs.TheGridAndItsBounds.{Model, Head, Grid, cells, extentsInBounds, bounded, floor, onePerCell}
+use Rattle.rules.specs.TheGridAndItsBounds.{Pair, Model, Head, Grid, cells, extentsInBounds, allPairs, bounded, floor, onePerCell}
 use Rattle.rules.specs.MarksAndFrames.{Steps, Mark, stepsAt, stampOf, frameOf, freed, occupiedStep, occupy, cellAt, openedFrame, openedStamps, openFrame}
 use Rattle.rules.specs.OneBeam.{Beam, Integrated, beamMarks, integrated}
 
@@ -98,10 +98,14 @@ abbrev pub largestSize : Format → Float
 largestSize binary32 = fin false 1 (pos 11)
 largestSize binary64 = fin false 1 (pos 20)
 
+unfoldable pub pairOfUnits : Format → Float → Pair → Bool
+pairOfUnits f ceiling p =
+    (ofUnits f (p .occupied) && ofUnits f (p .free) && ofUnits f ceiling)
+    && (le (p .occupied) (largestSize f) && le (neg (largestSize f)) (p .free) && le ceiling (largestSize f))
+
+-- the pairs of all bands
 unfoldable pub modelOfUnits : Format → Model → Bool
-modelOfUnits f m =
-    (ofUnits f (m .occupied) && ofUnits f (m .free) && ofUnits f (m .ceiling))
-    && (le (m .occupied) (largestSize f) && le (neg (largestSize f)) (m .free) && le (m .ceiling) (largestSize f))
+modelOfUnits f m = allPairs (pairOfUnits f (m .ceiling)) (m .lowest) (m .above)
 
 -- on the floor, below which no odds lie, or above it by more than the clear step's size
 unfoldable pub clearOfFloor : Format → Steps → Float → Bool

@@ -13,6 +13,7 @@ pub mod MapRecord
 pub mod SweepFile
 pub mod Checks
 pub mod ModelBounds
+pub mod Bands
 pub mod Places
 pub mod LineSteps
 pub mod Following

@@ -4,11 +4,11 @@ use mathlib.Core.Path.{_≡_, refl}
 use lib.Ieee.{Float, nan, inf, fin, lt, le, eq, neg}
 use lib.Ieee.Scale.{finite}
 use Rattle.rules.specs.Floats.{zeroF}
-use Rattle.rules.specs.TheGridAndItsBounds.{Model, mostSize, bounded}
+use Rattle.rules.specs.TheGridAndItsBounds.{Pair, mostSize, pairBounded}
 
--- the sizes of a model's numbers
-unfoldable pub sizesBounded : Model → Bool
-sizesBounded m = le (m .occupied) mostSize && le (neg mostSize) (m .free) && le (m .ceiling) mostSize
+-- the sizes of a pair's numbers and of the ceiling
+unfoldable pub sizesBounded : Float → Pair → Bool
+sizesBounded ceiling p = le (p .occupied) mostSize && le (neg mostSize) (p .free) && le ceiling mostSize
 
 positive-finite : (x : Float) → lt zeroF x ≡ true → le x mostSize ≡ true → finite x ≡ true
 unfolding lt le eq
@@ -31,9 +31,9 @@ nothing-added a b c true false z p q r = rw and-false
 nothing-added a b c true true false p q r = rw and-false
 nothing-added a b c true true true p q r = rw (p refl, q refl, r refl)
 
-pub bounded-by-size : (m : Model) → lt zeroF (m .occupied) ≡ true → lt (m .free) zeroF ≡ true → lt zeroF (m .ceiling) ≡ true → bounded m ≡ sizesBounded m
-unfolding bounded sizesBounded
-bounded-by-size m p q r =
+pub bounded-by-size : (c : Float) (m : Pair) → lt zeroF (m .occupied) ≡ true → lt (m .free) zeroF ≡ true → lt zeroF c ≡ true → pairBounded c m ≡ sizesBounded c m
+unfolding pairBounded sizesBounded
+bounded-by-size c m p q r =
     rw (p, q, r)
-    (nothing-added (finite (m .occupied)) (finite (m .free)) (finite (m .ceiling)) (le (m .occupied) mostSize) (le (neg mostSize) (m .free)) (le (m .ceiling) mostSize)
-    (positive-finite (m .occupied) p) (negative-finite (m .free) q) (positive-finite (m .ceiling) r))
+    (nothing-added (finite (m .occupied)) (finite (m .free)) (finite c) (le (m .occupied) mostSize) (le (neg mostSize) (m .free)) (le c mostSize)
+    (positive-finite (m .occupied) p) (negative-finite (m .free) q) (positive-finite c r))

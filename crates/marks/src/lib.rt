@@ -1,9 +1,11 @@
 // One mark on one cell, reading and setting one cell, and frames. The original's mark_free_at, mark_occupied_at, log_odds_at, set_log_odds and
 // begin_scan, for a place that was found and lists that were checked.
+mod bands;
 mod cells;
 mod frames;
 mod marks;
 
+pub use bands::model_at;
 pub use cells::read_at;
 pub use cells::set_checked_at;
 pub use cells::set_log_odds_at;

@@ -1,8 +1,12 @@
 // Reading a record: the whole of it is tried, then the lent lists, and only then are they written.
 ghost use mathlib.Core.Path.{_≡_};
 ghost use mathlib.Core.Option.{none};
-ghost use Rattle.rules.specs.MapRecord.{recordOf};
+ghost use mathlib.Core.List.{[]};
+ghost use Rattle.rules.specs.MapRecord.{recordOf, modelWithCuts};
 ghost use Rattle.rules.specs.RefusalNumbers.Entries.{readRecordEntry};
+ghost use Rattle.types.specs.Models.{modelOf, bandsOf, cutsOf};
+ghost use Rattle.types.specs.Points.{extents3};
+ghost use Rattle.types.specs.declared.points.Extents3.{Extents3};
 ghost use Rattle.grid_map.specs.Heads.{mapOutcome2, mapOutcome3};
 ghost use Rattle.marks.specs.Marking.{gridOf};
 ghost use Rattle.rows.specs.Rows.{refusalIn};
@@ -12,6 +16,7 @@ use crate::check::model_at;
 use crate::check::record_check2;
 use crate::check::record_check3;
 use checks::Check;
+use checks::cuts_in_bounds;
 use fields::u32_at;
 use grid_map::GridMap2;
 use grid_map::GridMap3;
@@ -19,14 +24,18 @@ use grid_map::MapAnswer2;
 use grid_map::MapAnswer3;
 use marks::clear_stamps;
 use rows::read_rows;
+use types::Bands;
+use types::Cuts;
 use types::Frame;
+use types::Model;
+use types::Pair;
 use types::Refusal;
 
 // A record that has been tried and found sound.
 fn read_sound2(bytes: &[u8], odds: &mut [f64], stamps: &mut [u32]) -> MapAnswer2
     requires { ⌜ refusalIn (recordOf 2 (now bytes)) ≡ none ⌝ }
     ensures { λ r. ⌜ mapOutcome2 r (now (odds .exit)) (now (stamps .exit))
-        ≡ readRecordEntry 2 (now (bytes .entry)) (gridOf (now (odds .entry)) (now (stamps .entry))) ⌝ }
+        ≡ readRecordEntry 2 [] (now (bytes .entry)) (gridOf (now (odds .entry)) (now (stamps .entry))) ⌝ }
 {
     let extents = extents_at2(bytes);
     let width = extents.x as usize;
@@ -49,7 +58,7 @@ fn read_sound2(bytes: &[u8], odds: &mut [f64], stamps: &mut [u32]) -> MapAnswer2
 // A map of two axes from its record. A record of three is broken at its first field.
 pub fn read_record2(bytes: &[u8], odds: &mut [f64], stamps: &mut [u32]) -> MapAnswer2
     ensures { λ r. ⌜ mapOutcome2 r (now (odds .exit)) (now (stamps .exit))
-        ≡ readRecordEntry 2 (now (bytes .entry)) (gridOf (now (odds .entry)) (now (stamps .entry))) ⌝ }
+        ≡ readRecordEntry 2 [] (now (bytes .entry)) (gridOf (now (odds .entry)) (now (stamps .entry))) ⌝ }
 {
     match record_check2(bytes) {
         Check::Refused(r) => MapAnswer2::Refused(r),
@@ -57,13 +66,34 @@ pub fn read_record2(bytes: &[u8], odds: &mut [f64], stamps: &mut [u32]) -> MapAn
     }
 }
 
+// Bands that all have this model's pair.
+fn alike(model: Model, cuts: Cuts) -> Bands
+    ensures { λ r. ⌜ ((e : Extents3) → bandsOf e r ≡ modelWithCuts (extents3 e) (cutsOf cuts) (modelOf model)) ⌝ }
+{
+    let pair = Pair {
+        occupied: model.occupied,
+        free: model.free,
+    };
+    Bands {
+        low: pair,
+        middle: pair,
+        high: pair,
+        ceiling: model.ceiling,
+        cuts,
+    }
+}
+
 // A record that has been tried and found sound.
-fn read_sound3(bytes: &[u8], odds: &mut [f64], stamps: &mut [u32]) -> MapAnswer3
+fn read_sound3(bytes: &[u8], cuts: Cuts, odds: &mut [f64], stamps: &mut [u32]) -> MapAnswer3
     requires { ⌜ refusalIn (recordOf 3 (now bytes)) ≡ none ⌝ }
     ensures { λ r. ⌜ mapOutcome3 r (now (odds .exit)) (now (stamps .exit))
-        ≡ readRecordEntry 3 (now (bytes .entry)) (gridOf (now (odds .entry)) (now (stamps .entry))) ⌝ }
+        ≡ readRecordEntry 3 (cutsOf cuts) (now (bytes .entry)) (gridOf (now (odds .entry)) (now (stamps .entry))) ⌝ }
 {
     let extents = extents_at3(bytes);
+    let bands = alike(model_at(bytes, 12), cuts);
+    if !cuts_in_bounds(extents, bands) {
+        return MapAnswer3::Refused(Refusal::Cuts);
+    }
     let width = extents.x as usize;
     let count = (extents.y * extents.z) as usize;
     if odds.len() != width * count {
@@ -76,18 +106,19 @@ fn read_sound3(bytes: &[u8], odds: &mut [f64], stamps: &mut [u32]) -> MapAnswer3
     clear_stamps(stamps);
     MapAnswer3::Map(GridMap3 {
         extents,
-        model: model_at(bytes, 12),
+        bands,
         frame: Frame(u32_at(bytes, 39)),
     })
 }
 
-// A map of three axes from its record. A record of two is broken at its first field.
-pub fn read_record3(bytes: &[u8], odds: &mut [f64], stamps: &mut [u32]) -> MapAnswer3
+// A map of three axes from its record, with these cuts between its bands, all of which have the record's pair. A record of two axes is broken at its first
+// field.
+pub fn read_record3(bytes: &[u8], cuts: Cuts, odds: &mut [f64], stamps: &mut [u32]) -> MapAnswer3
     ensures { λ r. ⌜ mapOutcome3 r (now (odds .exit)) (now (stamps .exit))
-        ≡ readRecordEntry 3 (now (bytes .entry)) (gridOf (now (odds .entry)) (now (stamps .entry))) ⌝ }
+        ≡ readRecordEntry 3 (cutsOf cuts) (now (bytes .entry)) (gridOf (now (odds .entry)) (now (stamps .entry))) ⌝ }
 {
     match record_check3(bytes) {
         Check::Refused(r) => MapAnswer3::Refused(r),
-        Check::Passed => read_sound3(bytes, odds, stamps),
+        Check::Passed => read_sound3(bytes, cuts, odds, stamps),
     }
 }

@@ -10,10 +10,11 @@ use lib.Ieee.{Float, binary64, toBits}
 use lib.ListN.{length, length-append, drop}
 use lib.Seq.{sets, sets-eq}
 use borrow.Author.Tests.{leb-true}
-use Rattle.rules.specs.RefusalNumbers.{Refusal, Answer, given, refused, andThen, noRoom}
+use Rattle.rules.specs.RefusalNumbers.{Refusal, Answer, given, refused, andThen, brokenRecord, noRoom}
 use Rattle.rules.specs.RefusalNumbers.Entries.{Outcome, writeAnswer}
-use Rattle.rules.specs.TheGridAndItsBounds.{Model, Head, cells, mostCells}
-use Rattle.rules.specs.MapRecord.{littleEndian, field, fieldSize, floatBytes, extentBytes, rowsBytes, rowsChecked, rowsOffset, recordBytes, recordSize, roomFor, writable, rowWidth, rowCount}
+use Rattle.rules.specs.TheGridAndItsBounds.{Pair, Model, Head, plainModel, cells, mostCells}
+use Rattle.rules.specs.MapRecord.{littleEndian, field, fieldSize, floatBytes, extentBytes, rowsBytes, rowsChecked, rowsOffset, recordBytes, recordSize, roomFor, writable, rowWidth, rowCount, equalPairs, pairsChecked}
+use Rattle.laws.specs.MapRecord.Rows.{rows-by-ceiling}
 use Rattle.laws.specs.Checks.{InBounds}
 use Rattle.fields.proofs.Bytes.{length-little}
 use Rattle.fields.proofs.Stores.{then-run}
@@ -25,15 +26,15 @@ use Rattle.rows.proofs.Shapes.{Shape, few}
 module _ (at : ℕ) (out : List ℕ) where
   pub model-written : (m : Model) (out₁ out₂ out₃ out₄ : List ℕ)
       → out₁ ≡ sets out at (2 ∷ littleEndian 2 24)
-      → out₂ ≡ sets out₁ (at + 3) (littleEndian 8 (toBits binary64 (m .occupied)))
-      → out₃ ≡ sets out₂ (at + 11) (littleEndian 8 (toBits binary64 (m .free)))
+      → out₂ ≡ sets out₁ (at + 3) (littleEndian 8 (toBits binary64 (m .lowest .occupied)))
+      → out₃ ≡ sets out₂ (at + 11) (littleEndian 8 (toBits binary64 (m .lowest .free)))
       → out₄ ≡ sets out₃ (at + 19) (littleEndian 8 (toBits binary64 (m .ceiling)))
       → out₄ ≡ sets out at (modelField m)
   unfolding littleEndian field floatBytes
   model-written m out₁ out₂ out₃ out₄ a b c d =
       let head : List ℕ = 2 ∷ littleEndian 2 24 in
-      let x : List ℕ = littleEndian 8 (toBits binary64 (m .occupied)) in
-      let y : List ℕ = littleEndian 8 (toBits binary64 (m .free)) in
+      let x : List ℕ = littleEndian 8 (toBits binary64 (m .lowest .occupied)) in
+      let y : List ℕ = littleEndian 8 (toBits binary64 (m .lowest .free)) in
       let z : List ℕ = littleEndian 8 (toBits binary64 (m .ceiling)) in
       let one = then-run head x out out₁ out₂ at (at + 3) a b refl in
       let two = then-run (head ++ x) y out out₂ out₃ at (at + 11) one c refl in
@@ -142,39 +143,53 @@ given-room m w n offset odds room size e = go (rowsChecked m w n offset odds) (l
     go (given t) false p h = let z : _≡_ {A = ℕ} 0 1 = cc in absurd (omega arith)
     go (refused r) b p h = let z : _≡_ {A = ℕ} 0 1 = cc in absurd (omega arith)
 
-module _ (h : Head) (odds : List Float) (out : List ℕ) (w n : ℕ) (shape : Shape (h .extents) w n) where
+-- one pair is equal to itself alone
+pub alone : (p : Pair) → equalPairs p [] ≡ true
+unfolding equalPairs
+alone p = refl
+
+-- a head of equal pairs, and the model that edition 1 keeps of it
+module _ (h : Head) (m : Model) (kept : m ≡ plainModel (h .model .lowest) (h .model .ceiling)) (equal : equalPairs (h .model .lowest) (h .model .above) ≡ true)
+    (odds : List Float) (out : List ℕ) (w n : ℕ) (shape : Shape (h .extents) w n) where
   abbrev start : ℕ
   start = fieldSize (2 * length (h .extents))
 
-  writable-is : writable h odds (length out) ≡ writableRows (h .model) w n (start + 34) odds (length out)
-  unfolding writable writableRows roomFor recordSize rowsOffset
+  writable-is : writable h odds (length out) ≡ writableRows m w n (start + 34) odds (length out)
+  unfolding writable pairsChecked writableRows roomFor recordSize rowsOffset
   writable-is =
       let e : start + 27 + 7 ≡ start + 34 = omega arith in
-      rw (shape .width-is, shape .count-is, e) refl
+      rw (equal, shape .width-is, shape .count-is, e, rows-by-ceiling (h .model) m (sym (ap (λ (k : Model). k .ceiling) kept)) w n (start + 34) odds) refl
 
-  pub not-written : (r : Refusal) → writableRows (h .model) w n (start + 34) odds (length out) ≡ refused r
+  pub not-written : (r : Refusal) → writableRows m w n (start + 34) odds (length out) ≡ refused r
       → _≡_ {A = Outcome ℕ (List ℕ)} (record { answer = refused r; lent = out }) (writeAnswer h odds out (writable h odds (length out)))
   not-written r e = rw (writable-is, e) refl
 
   pub written : (size : ℕ) (out₁ out₂ : List ℕ) → n * w ≤ length odds
-      → writableRows (h .model) w n (start + 34) odds (length out) ≡ given size
+      → writableRows m w n (start + 34) odds (length out) ≡ given size
       → out₁ ≡ sets out 0 (field 1 (extentBytes (h .extents)))
-      → out₂ ≡ sets out₁ start (restBytes (h .model) (h .frame) w n odds)
+      → out₂ ≡ sets out₁ start (restBytes m (h .frame) w n odds)
       → _≡_ {A = Outcome ℕ (List ℕ)} (record { answer = given size; lent = out₂ }) (writeAnswer h odds out (writable h odds (length out)))
   written size out₁ out₂ there e a b =
       let extents : List ℕ = field 1 (extentBytes (h .extents)) in
-      let rest : List ℕ = restBytes (h .model) (h .frame) w n odds in
+      let rest : List ℕ = restBytes m (h .frame) w n odds in
       let first : length extents ≡ start = length-extents (h .extents) in
-      let sized : size ≡ sizeOf (start + 34) w n = given-size (h .model) w n (start + 34) odds (length out) size e in
-      let fits = given-room (h .model) w n (start + 34) odds (length out) size e in
-      let long = length-rest (h .model) (h .frame) w n odds there in
+      let sized : size ≡ sizeOf (start + 34) w n = given-size m w n (start + 34) odds (length out) size e in
+      let fits = given-room m w n (start + 34) odds (length out) size e in
+      let long = length-rest m (h .frame) w n odds there in
       let both = length-append extents rest in
       let all : out₂ ≡ sets out 0 (extents ++ rest) = then-run extents rest out out₁ out₂ 0 start a b (omega arith) in
-      let is : recordBytes h odds ≡ extents ++ rest = record-is h odds ∙ rw (shape .width-is, shape .count-is) refl in
+      let is : recordBytes h odds ≡ extents ++ rest =
+      record-is h odds ∙ rw (shape .width-is, shape .count-is) (ap (λ (k : Model). extents ++ restBytes k (h .frame) w n odds) (sym kept)) in
       let k : 0 + length (extents ++ rest) ≡ size = omega arith in
       let stands : out₂ ≡ recordBytes h odds ++ drop size out =
       all ∙ sets-eq (extents ++ rest) out 0 (omega arith) ∙ ap (λ (j : ℕ). [] ++ (extents ++ rest) ++ drop j out) k ∙ ap (λ (bs : List ℕ). bs ++ drop size out) (sym is) in
       rw (writable-is, e, stands) refl
+
+-- unequal pairs are refused at the model's field, before anything else
+pub unequal : (h : Head) (odds : List Float) (out : List ℕ) → equalPairs (h .model .lowest) (h .model .above) ≡ false
+    → _≡_ {A = Outcome ℕ (List ℕ)} (record { answer = refused (brokenRecord (fieldSize (2 * length (h .extents)))); lent = out }) (writeAnswer h odds out (writable h odds (length out)))
+unfolding writable pairsChecked
+unequal h odds out e = rw e refl
 
 -- the rows are the list's
 pub all-there : (es : List ℕ) (w n : ℕ) (odds : List Float) → Shape es w n → length odds ≡ cells es → n * w ≤ length odds

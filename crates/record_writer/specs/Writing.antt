@@ -25,7 +25,7 @@ writableRows m width count offset odds room =
     (λ (t : Unit {0}). cond (leb (sizeOf offset width count) room) (given (sizeOf offset width count)) (refused (noRoom (sizeOf offset width count))))
 
 abbrev pub modelField : Model → List ℕ
-modelField m = field 2 (floatBytes (m .occupied ∷ m .free ∷ m .ceiling ∷ []))
+modelField m = field 2 (floatBytes (m .lowest .occupied ∷ m .lowest .free ∷ m .ceiling ∷ []))
 
 abbrev pub frameField : ℕ → List ℕ
 frameField frame = field 3 (littleEndian 4 frame)

@@ -1,16 +1,17 @@
-// Writing the map record of document 01, for two and three axes: the head's checks, then the odds (10), then the room (11), and only then are bytes
-// written to what is lent.
+// Writing the map record of document 01, for two and three axes: the head's checks, then whether its bands have one pair (10), then the odds (10), then
+// the room (11), and only then are bytes written to what is lent.
 ghost use mathlib.Core.Path.{_≡_};
+ghost use mathlib.Core.Bool.{true, _&&_};
 ghost use mathlib.Core.Option.{none};
 ghost use Prim.Native.Nat.{_+_, _*_, _^_, _≤_, _<_};
 ghost use lib.ListN.{length};
 ghost use lib.Seq.{sets};
 ghost use Rattle.rules.specs.RefusalNumbers.Entries as Entries;
 ghost use Rattle.rules.specs.TheGridAndItsBounds.{mostExtent};
-ghost use Rattle.rules.specs.MapRecord.{field, fieldSize, extentBytes, writable};
+ghost use Rattle.rules.specs.MapRecord.{field, fieldSize, extentBytes, samePair, equalPairs, writable};
 ghost use Rattle.laws.specs.Checks.{AxesInBounds};
 ghost use Rattle.types.specs.Answers.{countAnswer};
-ghost use Rattle.types.specs.Models.{modelOf};
+ghost use Rattle.types.specs.Models.{modelOf, pairOf};
 ghost use Rattle.types.specs.Points.{extents2, extents3};
 ghost use Rattle.grid_map.specs.Heads.{head2, head3};
 ghost use Rattle.record_writer.specs.Writing.{writeOutcome, sizeOf, writableRows, modelField, frameField, restBytes};
@@ -18,6 +19,7 @@ use checks::Check;
 use checks::Uses;
 use checks::head_check2;
 use checks::head_check3;
+use fields::bits_of;
 use fields::put_f64;
 use fields::put_field;
 use fields::put_u16;
@@ -26,11 +28,13 @@ use grid_map::GridMap2;
 use grid_map::GridMap3;
 use rows::rows_writable;
 use rows::write_rows;
+use types::Bands;
 use types::CountAnswer;
 use types::Extents2;
 use types::Extents3;
 use types::Frame;
 use types::Model;
+use types::Pair;
 use types::Refusal;
 
 // The record's size, or why it cannot be written. The rows are the list's and short, and the record's bytes can be counted.
@@ -149,23 +153,59 @@ fn put_extents3(out: &mut [u8], e: Extents3)
     put_u16(out, 7, e.z as u16);
 }
 
+// Finite numbers and not zero, so that equal bits are equal numbers: the head has passed its checks where this is asked.
+fn same_pair(a: Pair, b: Pair) -> bool
+    ensures { λ r. ⌜ r ≡ samePair (pairOf a) (pairOf b) ⌝ }
+{
+    if bits_of(a.occupied) == bits_of(b.occupied) {
+        return bits_of(a.free) == bits_of(b.free);
+    }
+    false
+}
+
+// The record of this edition has room for one pair.
+fn equal_pairs(bands: Bands) -> bool
+    ensures { λ r. ⌜ r ≡ (samePair (pairOf (bands .low)) (pairOf (bands .middle)) && samePair (pairOf (bands .low)) (pairOf (bands .high))) ⌝ }
+{
+    let low = bands.low;
+    if same_pair(low, bands.middle) {
+        return same_pair(low, bands.high);
+    }
+    false
+}
+
+// A map whose head has passed its checks and whose bands have one pair.
+fn write_equal3(map: GridMap3, odds: &[f64], out: &mut [u8]) -> CountAnswer
+    requires { ⌜ Entries.headRefusal (Entries.usesOf Entries.writing) (head3 map) (length (now odds)) 0 ≡ none ⌝
+        ∗ ⌜ equalPairs (head3 map .model .lowest) (head3 map .model .above) ≡ true ⌝ }
+    ensures { λ r. ⌜ writeOutcome r (now (out .exit))
+        ≡ Entries.writeAnswer (head3 map) (now (odds .entry)) (now (out .entry)) (writable (head3 map) (now (odds .entry)) (length (now (out .entry)))) ⌝ }
+{
+    let e = map.extents;
+    let bands = map.bands;
+    let model = bands.lowest();
+    let width = e.x as usize;
+    let count = (e.y * e.z) as usize;
+    match size_if_writable(odds, width, count, model, 43, out.len()) {
+        CountAnswer::Refused(r) => CountAnswer::Refused(r),
+        CountAnswer::Count(size) => {
+            put_extents3(out, e);
+            put_rest(out, 9, model, map.frame, odds, width, count);
+            CountAnswer::Count(size)
+        }
+    }
+}
+
 // A map whose head has passed its checks.
 fn write_passed3(map: GridMap3, odds: &[f64], out: &mut [u8]) -> CountAnswer
     requires { ⌜ Entries.headRefusal (Entries.usesOf Entries.writing) (head3 map) (length (now odds)) 0 ≡ none ⌝ }
     ensures { λ r. ⌜ writeOutcome r (now (out .exit))
         ≡ Entries.writeAnswer (head3 map) (now (odds .entry)) (now (out .entry)) (writable (head3 map) (now (odds .entry)) (length (now (out .entry)))) ⌝ }
 {
-    let e = map.extents;
-    let width = e.x as usize;
-    let count = (e.y * e.z) as usize;
-    match size_if_writable(odds, width, count, map.model, 43, out.len()) {
-        CountAnswer::Refused(r) => CountAnswer::Refused(r),
-        CountAnswer::Count(size) => {
-            put_extents3(out, e);
-            put_rest(out, 9, map.model, map.frame, odds, width, count);
-            CountAnswer::Count(size)
-        }
+    if equal_pairs(map.bands) {
+        return write_equal3(map, odds, out);
     }
+    CountAnswer::Refused(Refusal::Record { offset: 9 })
 }
 
 // The record of a map of three axes, from the first byte of what is lent: how many bytes it has.
@@ -173,7 +213,7 @@ pub fn write_record3(map: GridMap3, odds: &[f64], out: &mut [u8]) -> CountAnswer
     ensures { λ r. ⌜ writeOutcome r (now (out .exit)) ≡ Entries.writeRecordEntry (head3 map) (now (odds .entry)) (now (out .entry)) ⌝ }
 {
     let e = map.extents;
-    match head_check3(Uses::WRITING, e, map.model, map.frame, odds.len(), 0) {
+    match head_check3(Uses::WRITING, e, map.bands, map.frame, odds.len(), 0) {
         Check::Refused(r) => CountAnswer::Refused(r),
         Check::Passed => write_passed3(map, odds, out),
     }

@@ -9,12 +9,15 @@ use crate::reading::small;
 use crate::reading::starts;
 use grid_map::GridMap2;
 use grid_map::GridMap3;
+use types::Bands;
 use types::Cell2;
 use types::Cell3;
+use types::Cuts;
 use types::Extents2;
 use types::Extents3;
 use types::Frame;
 use types::Model;
+use types::Pair;
 use types::Point2;
 use types::Point3;
 
@@ -142,6 +145,22 @@ fn cells_of(e: Extents3) -> usize {
     cells
 }
 
+// The original has one pair of steps, so every band has it; the cuts do not matter then, and these fit every map of the list.
+fn alike(occupied: f64, free: f64, ceiling: f64) -> Bands {
+    let pair = Pair { occupied, free };
+    let cuts = Cuts {
+        first: 1,
+        second: 2,
+    };
+    Bands {
+        low: pair,
+        middle: pair,
+        high: pair,
+        ceiling,
+        cuts,
+    }
+}
+
 // The model and the frame, after the extents.
 fn rest_of_map(line: &[u8], c: Cursor, axes: u64, e: Extents3) -> NewMap {
     let occupied = float(line, c);
@@ -151,19 +170,20 @@ fn rest_of_map(line: &[u8], c: Cursor, axes: u64, e: Extents3) -> NewMap {
     let cells = cells_of(e);
     let rest = agreed(number.rest, cells > 0);
     let frame = Frame(number.value);
+    if axes == 3 {
+        let bands = alike(occupied.value, free.value, ceiling.value);
+        let map = Map::Three(GridMap3 {
+            extents: e,
+            bands,
+            frame,
+        });
+        return NewMap { map, cells, rest };
+    }
     let model = Model {
         occupied: occupied.value,
         free: free.value,
         ceiling: ceiling.value,
     };
-    if axes == 3 {
-        let map = Map::Three(GridMap3 {
-            extents: e,
-            model,
-            frame,
-        });
-        return NewMap { map, cells, rest };
-    }
     let extents = Extents2 { x: e.x, y: e.y };
     let map = Map::Two(GridMap2 {
         extents,

@@ -1,10 +1,11 @@
 -- Document 01, "Figures to test on": every figure marked *, as one record whose fields are the figures, proved of the definitions by computation.
--- Three short tables stand below it. `Original` has answers of the original that a careless change of a definition alters where no figure
+-- Short tables stand below it. `Original` has answers of the original that a careless change of a definition alters where no figure
 -- marked * notices; `Added` has some of what document 01 adds to the original: refusals, and the map record;
--- `Sweeps` has change request 2's sweep file.
+-- `Sweeps` has change request 2's sweep file, `Bands` change request 6's bands.
 pub mod Original
 pub mod Added
 pub mod Sweeps
+pub mod Bands
 use Prim.Native.Nat.{ℕ, _-_}
 use mathlib.Core.Bool.{Bool, true, false}
 use mathlib.Core.List.{List, [], _∷_, _++_, map}
@@ -16,8 +17,8 @@ use lib.Ieee.{Float, nan, binary64, round, add, sub, neg, mul, div, lt, le, eq, 
 use Rattle.rules.specs.RefusalNumbers.{Answer, given, refused, andThen}
 use Rattle.rules.specs.RefusalNumbers.{outOfBounds}
 use Rattle.rules.specs.Floats.{zeroF, halfF, oneF, numberF, mag, allFinite}
-use Rattle.rules.specs.TheGridAndItsBounds.{Model, Head, Grid, cells, allAtLeast, allAtMost, fitsCapacity, extentsInBounds, stridesFrom, strides, bounded, floor}
-use Rattle.rules.specs.TheGridAndItsBounds.{onePerCell, freshGrid}
+use Rattle.rules.specs.TheGridAndItsBounds.{Model, plainModel, Head, Grid, cells, allAtLeast, allAtMost, fitsCapacity, extentsInBounds, stridesFrom, strides, bounded, floor}
+use Rattle.rules.specs.TheGridAndItsBounds.{pairBounded, allPairs, pairAt, rising, cutsBelow, lastExtent, cutsInBounds, layerOf, onePerCell, freshGrid}
 use Rattle.rules.specs.Coordinates.{Sample, truncated, truncatedPoint, within, outsideAxes, axisContaining, containingFrom, cellContaining, along, offAxes, onGridFrom}
 use Rattle.rules.specs.Coordinates.{timesStrides, flatIndex, foldedAxis, stencilAxis, stencil, corners, cornerPlace, weighed, weighedWithout, valueFrom}
 use Rattle.rules.specs.Coordinates.{slopeFrom, gradientFrom, sampleAt, sample}
@@ -31,7 +32,7 @@ use Rattle.rules.specs.OneBeam.{clippedAt, clip, marksAlong, marksBetwee
 use Rattle.rules.specs.OneBeam.{beamsOf}
 use Rattle.rules.specs.MapRecord.{littleEndian, fromLittleEndian, field, fieldHere, extentBytes, extentsIn, floatBytes, floatsIn, rowCount, rowsBytes}
 use Rattle.rules.specs.MapRecord.{recordBytes, rowsOffset, oddsInBounds, endIn, rowsIn, frameIn, modelFrom, recordOf, anyRecordOf, rowsChecked, recordSize}
-use Rattle.rules.specs.MapRecord.{roomFor, writable}
+use Rattle.rules.specs.MapRecord.{bandsFrom, sameBits, samePair, equalPairs, pairsChecked, roomFor, writable}
 use Rattle.rules.specs.RefusalNumbers.Entries.{Outcome, firstTooSmall, extentsRefusal, headRefusal, newEntry, resetEntry, beginScanEntry, markEntry, updateRayEntry}
 use Rattle.rules.specs.RefusalNumbers.Entries.{updateScanEntry, setLogOddsEntry, logOddsAtEntry, sampleLogOddsEntry, cellContainingEntry, readRecordEntry}
 use Rattle.rules.specs.RefusalNumbers.Entries.{writeRecordEntry, setLogOddsCheckedEntry}
@@ -51,7 +52,7 @@ cell x y = pos x ∷ pos y ∷ []
 
 -- "Map 10 by 8; occupied 0.75, free -0.5, ceiling 4; fresh, opened to frame 2."
 abbrev model : Model
-model = record { occupied = plus 3 4; free = minus 1 2; ceiling = plus 4 1 }
+model = plainModel (record { occupied = plus 3 4; free = minus 1 2 }) (plus 4 1)
 
 abbrev headOf : ℕ → ℕ → ℕ → Head
 headOf x y frame = record { extents = x ∷ y ∷ []; model = model; frame = frame }
@@ -140,7 +141,7 @@ pub record Figures : Type 0 where
 
 -- Opening this one opens every definition of the rules and the library's float operations, so that the figures compute.
 unfoldable opened : ℕ
-unfolding numberF mag allFinite cells allAtLeast allAtMost fitsCapacity extentsInBounds stridesFrom strides bounded floor onePerCell freshGrid truncated truncatedPoint within outsideAxes axisContaining containingFrom cellContaining along offAxes onGridFrom timesStrides flatIndex foldedAxis stencilAxis stencil corners cornerPlace weighed weighedWithout valueFrom slopeFrom gradientFrom sampleAt sample delta deltas larger primaryFrom primaryOf increment stepTo axisOf axesOf thresholdOf cellsYielded lineBetween plotter otherAfter primaryAfter axisAfter axesAfter lastStep earlierStep stepOf cellsWithin lineCells stepsAt stampOf clamp limited freed markFree occupiedStep occupy markOccupied markCell markAt marked changes setOdds openedFrame openedStamps openFrame largerOf smallerOf cutTo slab slabs directions pointAt bothBeyond allWithin isInside clampAxis clampPoint clippedAt clip marksAlong marksBetween beamMarks integratedBeam integratedFrom integrated allBits flatShape beamsOf littleEndian fromLittleEndian field fieldHere extentBytes extentsIn floatBytes floatsIn rowCount rowsBytes recordBytes rowsOffset oddsInBounds endIn rowsIn frameIn modelFrom recordOf anyRecordOf rowsChecked recordSize roomFor writable firstTooSmall extentsRefusal headRefusal newEntry resetEntry beginScanEntry markEntry updateRayEntry updateScanEntry setLogOddsEntry setLogOddsCheckedEntry logOddsAtEntry sampleLogOddsEntry cellContainingEntry readRecordEntry writeRecordEntry round add sub neg mul div lt le eq ofInt toSigned toUnsigned toBits ofBits isNan
+unfolding numberF mag allFinite cells allAtLeast allAtMost fitsCapacity extentsInBounds stridesFrom strides pairBounded allPairs bounded floor pairAt rising cutsBelow lastExtent cutsInBounds layerOf onePerCell freshGrid truncated truncatedPoint within outsideAxes axisContaining containingFrom cellContaining along offAxes onGridFrom timesStrides flatIndex foldedAxis stencilAxis stencil corners cornerPlace weighed weighedWithout valueFrom slopeFrom gradientFrom sampleAt sample delta deltas larger primaryFrom primaryOf increment stepTo axisOf axesOf thresholdOf cellsYielded lineBetween plotter otherAfter primaryAfter axisAfter axesAfter lastStep earlierStep stepOf cellsWithin lineCells stepsAt stampOf clamp limited freed markFree occupiedStep occupy markOccupied markCell markAt marked changes setOdds openedFrame openedStamps openFrame largerOf smallerOf cutTo slab slabs directions pointAt bothBeyond allWithin isInside clampAxis clampPoint clippedAt clip marksAlong marksBetween beamMarks integratedBeam integratedFrom integrated allBits flatShape beamsOf littleEndian fromLittleEndian field fieldHere extentBytes extentsIn floatBytes floatsIn rowCount rowsBytes recordBytes rowsOffset oddsInBounds endIn rowsIn frameIn modelFrom recordOf anyRecordOf bandsFrom sameBits samePair equalPairs pairsChecked rowsChecked recordSize roomFor writable firstTooSmall extentsRefusal headRefusal newEntry resetEntry beginScanEntry markEntry updateRayEntry updateScanEntry setLogOddsEntry setLogOddsCheckedEntry logOddsAtEntry sampleLogOddsEntry cellContainingEntry readRecordEntry writeRecordEntry round add sub neg mul div lt le eq ofInt toSigned toUnsigned toBits ofBits isNan
 opened = 0
 
 pub figures : Figures

@@ -6,7 +6,7 @@ use lib.Dec.{eqb, leb}
 use lib.ListN.{length, getD, take, drop}
 use lib.Ieee.{Float, nan, binary64, le, toBits, ofBits}
 use Rattle.rules.specs.RefusalNumbers.{Answer, given, refused, andThen, brokenRecord, noRoom}
-use Rattle.rules.specs.TheGridAndItsBounds.{Model, Head, cells, floor, bounded, extentsInBounds}
+use Rattle.rules.specs.TheGridAndItsBounds.{Pair, Band, Model, Head, plainModel, cells, floor, bounded, layerOf, extentsInBounds}
 use Rattle.rules.specs.MarksAndFrames.{openFrame}
 
 -- "Fields: one-byte tag, two-byte length, data; little-endian."
@@ -62,7 +62,7 @@ rowsBytes width (suc n) odds = field 4 (floatBytes (take width odds)) ++ rowsByt
 unfoldable pub recordBytes : Head → List Float → List ℕ
 recordBytes h odds =
     field 1 (extentBytes (h .extents))
-    ++ field 2 (floatBytes (h .model .occupied ∷ h .model .free ∷ h .model .ceiling ∷ []))
+    ++ field 2 (floatBytes (h .model .lowest .occupied ∷ h .model .lowest .free ∷ h .model .ceiling ∷ []))
     ++ field 3 (littleEndian 4 (h .frame))
     ++ rowsBytes (rowWidth (h .extents)) (rowCount (h .extents)) odds
     ++ field 5 []
@@ -109,8 +109,9 @@ frameIn offset es m rest =
     (λ frame. andThen (rowsIn m (rowWidth es) (rowCount es) (offset + fieldSize 4) (drop (fieldSize 4) rest))
     (λ odds. given (record { head = record { extents = es; model = m; frame = frame }; odds = odds })))
 
+-- one pair of steps and no cuts, on three axes too: those are whose reads it
 abbrev pub modelIn : List Float → Model
-modelIn xs = record { occupied = getD xs 0 nan; free = getD xs 1 nan; ceiling = getD xs 2 nan }
+modelIn xs = plainModel (record { occupied = getD xs 0 nan; free = getD xs 1 nan }) (getD xs 2 nan)
 
 unfoldable pub modelFrom : ℕ → List ℕ → List ℕ → Answer Stored
 modelFrom offset es rest =
@@ -129,6 +130,33 @@ anyRecordOf bytes =
     let n : ℕ = fromLittleEndian 2 (drop 1 bytes) in
     cond (eqb n 4) (recordOf 2 bytes) (cond (eqb n 6) (recordOf 3 bytes) (refused (brokenRecord 0)))
 
+-- Change request 6: "Whoever reads an edition 1 record of three axes supplies the cuts." Every band has the record's pair.
+unfoldable pub bandsFrom : Pair → List ℕ → List Band
+bandsFrom p [] = []
+bandsFrom p (c ∷ cs) = record { cut = c; pair = p } ∷ bandsFrom p cs
+
+abbrev pub modelWithCuts : List ℕ → List ℕ → Model → Model
+modelWithCuts es [] m = m
+modelWithCuts es (c ∷ cs) m =
+    record { lowest = m .lowest; above = bandsFrom (m .lowest) (c ∷ cs); ceiling = m .ceiling; layer = layerOf es }
+
+abbrev pub withCuts : List ℕ → Head → Head
+withCuts cuts h = record { extents = h .extents; model = modelWithCuts (h .extents) cuts (h .model); frame = h .frame }
+
+-- "Edition 1 records can be written only with equal pairs": "10 at offset 9 (the model field of three axes) when unequal pairs are asked of edition 1"
+unfoldable pub sameBits : Float → Float → Bool
+sameBits x y = eqb (toBits binary64 x) (toBits binary64 y)
+
+unfoldable pub samePair : Pair → Pair → Bool
+samePair p q = sameBits (p .occupied) (q .occupied) && sameBits (p .free) (q .free)
+
+unfoldable pub equalPairs : Pair → List Band → Bool
+equalPairs p [] = true
+equalPairs p (b ∷ bs) = samePair p (b .pair) && equalPairs p bs
+
+unfoldable pub pairsChecked : Head → Answer (Unit {0})
+pairsChecked h = soundOr (fieldSize (2 * length (h .extents))) (equalPairs (h .model .lowest) (h .model .above)) tt
+
 -- "Writing applies the same bounds .. to odds (10, offset of that row), before 11."
 unfoldable pub rowsChecked : Model → ℕ → ℕ → ℕ → List Float → Answer (Unit {0})
 rowsChecked m width zero offset odds = given tt
@@ -145,4 +173,5 @@ roomFor es room = cond (leb (recordSize es) room) (given (recordSize es)) (refus
 unfoldable pub writable : Head → List Float → ℕ → Answer ℕ
 writable h odds room =
     let es : List ℕ = h .extents in
-    andThen (rowsChecked (h .model) (rowWidth es) (rowCount es) (rowsOffset (length es)) odds) (λ (t : Unit {0}). roomFor es room)
+    andThen (pairsChecked h)
+    (λ (s : Unit {0}). andThen (rowsChecked (h .model) (rowWidth es) (rowCount es) (rowsOffset (length es)) odds) (λ (t : Unit {0}). roomFor es room))

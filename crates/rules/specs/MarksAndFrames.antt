@@ -5,17 +5,25 @@ use mathlib.Core.List.{List, [], _∷_}
 use lib.Dec.{eqb, leb, ltb}
 use lib.ListN.{getD, set, length, replicate}
 use lib.Ieee.{Float, nan, Format, add, sub, lt, le}
-use Rattle.rules.specs.TheGridAndItsBounds.{Model, floor, Grid, freshFrame}
+use Rattle.rules.specs.TheGridAndItsBounds.{Pair, Model, floor, pairAt, Grid, freshFrame}
 
--- The steps and the bounds of one cell, and whence they come: a function of the cell's place in the lists. Here every cell has the model's.
+-- The steps and the bounds of one cell, and whence they come: a function of the cell's place in the lists. By change request 6 a cell "uses its band's
+-- pair for clear, cloud and taking back"; the bounds are the model's.
 pub record Steps : Type 0 where
   pub occupied : Float
   pub free : Float
   pub floor : Float
   pub ceiling : Float
 
+abbrev pub stepsWith : Model → Pair → Steps
+stepsWith m p = record { occupied = p .occupied; free = p .free; floor = floor m; ceiling = m .ceiling }
+
+-- the pair of the band in which a place lies, by its height
+abbrev pub pairFor : Model → ℕ → Pair
+pairFor m place = pairAt (place / m .layer) (m .lowest) (m .above)
+
 unfoldable pub stepsAt : Model → ℕ → Steps
-stepsAt m place = record { occupied = m .occupied; free = m .free; floor = floor m; ceiling = m .ceiling }
+stepsAt m place = stepsWith m (pairFor m place)
 
 -- "A stamp is frame*2, plus 1 if occupied."
 unfoldable pub stampOf : ℕ → Bool → ℕ

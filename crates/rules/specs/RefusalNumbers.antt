@@ -69,6 +69,10 @@ oddsNotANumber = record { number = 13; values = [] }
 abbrev pub unequalLists : Refusal
 unequalLists = record { number = 14; values = [] }
 
+-- document 02, request 6: "15, bad cuts"
+abbrev pub badCuts : Refusal
+badCuts = record { number = 15; values = [] }
+
 -- an answer: what was asked for, or the refusal
 pub data Answer (A : Type 0) : Type 0 where
   given : A → Answer A

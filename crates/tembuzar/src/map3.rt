@@ -3,7 +3,7 @@ ghost use mathlib.Core.Path.{_≡_};
 ghost use lib.Ieee.{binary64};
 ghost use Rattle.rules.specs.RefusalNumbers.Entries.{newEntry, resetEntry, beginScanEntry};
 ghost use Rattle.rules.specs.RefusalNumbers.Entries.{cellContainingEntry, logOddsAtEntry, sampleLogOddsEntry, setLogOddsEntry, setLogOddsCheckedEntry};
-ghost use Rattle.types.specs.Models.{modelOf};
+ghost use Rattle.types.specs.Models.{bandsOf};
 ghost use Rattle.types.specs.Points.{cell3, extents3, point3};
 ghost use Rattle.marks.specs.Marking.{gridOf};
 ghost use Rattle.grid_map.specs.Heads.{head3};
@@ -19,22 +19,22 @@ use c_types::odds_to_c;
 use c_types::sample3_to_c;
 use c_types::set_to_c;
 use grid_map::GridMap3;
+use types::Bands;
 use types::Cell3;
 use types::Extents3;
-use types::Model;
 use types::Point3;
 
 #[no_mangle]
 pub extern "C" fn tembuzar_new3(
     extents: Extents3,
-    model: Model,
+    bands: Bands,
     odds: &mut [f64],
     stamps: &mut [u32],
 ) -> CMapAnswer3
-    ensures { λ r. ⌜ Told cMap3 (newEntry (extents3 extents) (modelOf model) (gridOf (now (odds .entry)) (now (stamps .entry))))
+    ensures { λ r. ⌜ Told cMap3 (newEntry (extents3 extents) (bandsOf extents bands) (gridOf (now (odds .entry)) (now (stamps .entry))))
         r (gridOf (now (odds .exit)) (now (stamps .exit))) ⌝ }
 {
-    map3_to_c(GridMap3::new(extents, model, odds, stamps))
+    map3_to_c(GridMap3::new(extents, bands, odds, stamps))
 }
 
 #[no_mangle]

@@ -2,6 +2,8 @@
 // answer's form is another.
 ghost use mathlib.Core.Path.{_≡_};
 ghost use Rattle.rules.specs.RefusalNumbers.Entries.{readRecordEntry, writeRecordEntry};
+ghost use mathlib.Core.List.{[]};
+ghost use Rattle.types.specs.Models.{cutsOf};
 ghost use Rattle.marks.specs.Marking.{gridOf};
 ghost use Rattle.grid_map.specs.Heads.{head2, head3};
 ghost use Rattle.c_types.specs.Answers.{Told, cMap2, cMap3, cCount};
@@ -17,6 +19,7 @@ use record_reader::read_record2;
 use record_reader::read_record3;
 use record_writer::write_record2;
 use record_writer::write_record3;
+use types::Cuts;
 
 #[no_mangle]
 pub extern "C" fn tembuzar_read_record2(
@@ -24,7 +27,7 @@ pub extern "C" fn tembuzar_read_record2(
     odds: &mut [f64],
     stamps: &mut [u32],
 ) -> CMapAnswer2
-    ensures { λ r. ⌜ Told cMap2 (readRecordEntry 2 (now (bytes .entry)) (gridOf (now (odds .entry)) (now (stamps .entry))))
+    ensures { λ r. ⌜ Told cMap2 (readRecordEntry 2 [] (now (bytes .entry)) (gridOf (now (odds .entry)) (now (stamps .entry))))
         r (gridOf (now (odds .exit)) (now (stamps .exit))) ⌝ }
 {
     map2_to_c(read_record2(bytes, odds, stamps))
@@ -44,13 +47,14 @@ pub extern "C" fn tembuzar_write_record2(
 #[no_mangle]
 pub extern "C" fn tembuzar_read_record3(
     bytes: &[u8],
+    cuts: Cuts,
     odds: &mut [f64],
     stamps: &mut [u32],
 ) -> CMapAnswer3
-    ensures { λ r. ⌜ Told cMap3 (readRecordEntry 3 (now (bytes .entry)) (gridOf (now (odds .entry)) (now (stamps .entry))))
+    ensures { λ r. ⌜ Told cMap3 (readRecordEntry 3 (cutsOf cuts) (now (bytes .entry)) (gridOf (now (odds .entry)) (now (stamps .entry))))
         r (gridOf (now (odds .exit)) (now (stamps .exit))) ⌝ }
 {
-    map3_to_c(read_record3(bytes, odds, stamps))
+    map3_to_c(read_record3(bytes, cuts, odds, stamps))
 }
 
 #[no_mangle]

@@ -19,6 +19,8 @@ use Rattle.types.specs.declared.points.Cell3.{Cell3}
 use Rattle.types.specs.declared.points.Extents2.{Extents2}
 use Rattle.types.specs.declared.points.Extents3.{Extents3}
 use Rattle.types.specs.declared.model.Model.{Model}
+use Rattle.types.specs.declared.model.Pair.{Pair}
+use Rattle.types.specs.declared.model.Bands.{Bands}
 use Rattle.types.specs.declared.samples.MapSample2.{MapSample2}
 use Rattle.types.specs.declared.samples.MapSample3.{MapSample3}
 use Rattle.types.specs.declared.beams.ScanBeam2.{ScanBeam2}
@@ -28,7 +30,7 @@ use Rattle.types.specs.declared.beams.Clipped3.{Clipped3}
 use Rattle.types.specs.declared.beams.RayTermination.{RayTermination}
 use Rattle.types.specs.declared.beams.RayTermination.the-variants.{Hit, MaxRange}
 use Rattle.types.specs.Points.{point2, point3, vector2, vector3, cell2, cell3, extents2, extents3}
-use Rattle.types.specs.Models.{modelOf}
+use Rattle.types.specs.Models.{modelOf, bandsOf}
 use Rattle.types.specs.Samples.{sample2, sample3}
 use Rattle.types.specs.Beams.{isHit, beam2, beam3, clipped2, clipped3}
 
@@ -88,10 +90,30 @@ pub extents3-injective : Injective extents3
 extents3-injective = of-back extents3 extents3-back (λ a. refl)
 
 abbrev pub model-back : Grid.Model → Model
-model-back m = record { occupied = m .occupied; free = m .free; ceiling = m .ceiling }
+model-back m = record { occupied = m .lowest .occupied; free = m .lowest .free; ceiling = m .ceiling }
 
 pub model-injective : Injective modelOf
 model-injective = of-back modelOf model-back (λ a. refl)
+
+-- a band above the lowest, by how many lie between
+abbrev band-back : Grid.Model → ℕ → Grid.Band
+band-back m i = getD (m .above) i (record { cut = 0; pair = m .lowest })
+
+abbrev pair-back : Grid.Pair → Pair
+pair-back p = record { occupied = p .occupied; free = p .free }
+
+abbrev pub bands-back : Grid.Model → Bands
+bands-back m =
+    record {
+      low = pair-back (m .lowest);
+      middle = pair-back (band-back m 0 .pair);
+      high = pair-back (band-back m 1 .pair);
+      ceiling = m .ceiling;
+      cuts = record { first = band-back m 0 .cut; second = band-back m 1 .cut };
+    }
+
+pub bands-injective : (e : Extents3) → Injective (bandsOf e)
+bands-injective e = of-back (bandsOf e) bands-back (λ a. refl)
 
 abbrev pub sample2-back : Coordinates.Sample → MapSample2
 sample2-back s = record { value = s .value; gradient = vector2-back (s .gradient) }

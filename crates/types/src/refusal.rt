@@ -50,4 +50,6 @@ pub enum Refusal {
     Odds,
     // The lists of points, samples and marks are not for the same number of points.
     Lists,
+    // The heights at which bands begin are not 0 < first < second < the last extent.
+    Cuts,
 }

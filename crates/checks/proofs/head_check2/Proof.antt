@@ -5,7 +5,7 @@ use native.Mathlib.Nat.{mul-one, mul-le-mul}
 use mir.Facts.{fits-le, fits-lit}
 use borrow.Author.Needs.{needs}
 use Rattle.rules.specs.RefusalNumbers.Entries.{headRefusal}
-use Rattle.rules.specs.TheGridAndItsBounds.{cells, onePerCell}
+use Rattle.rules.specs.TheGridAndItsBounds.{cells, onePerCell, cutsBelow, cutsInBounds}
 use Rattle.laws.specs.Checks.{InBounds, extents-passed}
 use Rattle.types.specs.Points.{extents2}
 use Rattle.checks.specs.Checking.{checkOf, usedRefusal}
@@ -25,8 +25,11 @@ enum-told c = search needs
 in-bounds : (c : tie.After-enum-told) → InBounds (extents2 (c .before .before .before .args .e))
 in-bounds c = extents-passed _ (sym (c .before .before .extents-check2 .ensures) ∙ ap checkOf (c .enum-told .given .1))
 
+is-bounded-requires : tie.Need-is-bounded-requires
+is-bounded-requires c κs = search needs
+
 mul-used-check : tie.Need-mul-used-check
-mul-used-check c = let p = in-bounds (c .before) in fits-le (mul-le-mul (p .0 .1) (p .0 .2 .1)) (fits-lit {n = 4096 * 4096} tt)
+mul-used-check c = let p = in-bounds (c .before .before) in fits-le (mul-le-mul (p .0 .1) (p .0 .2 .1)) (fits-lit {n = 4096 * 4096} tt)
 
 used-check-requires : tie.Need-used-check-requires
 used-check-requires c κs = search needs
@@ -36,8 +39,14 @@ unfolding headRefusal
 returns c = simp (sym (c .before .before .before .extents-check2 .ensures) ∙ ap checkOf (c .before .r .given .1))
 
 returns-2 : tie.Need-returns-2
-unfolding headRefusal usedRefusal onePerCell cells
-returns-2 c = simp (sym (c .before .before .before .before .extents-check2 .ensures) ∙ ap checkOf (c .before .before .enum-told .given .1), c .used-check .ensures, mul-one)
+unfolding headRefusal usedRefusal onePerCell cells cutsBelow cutsInBounds
+returns-2 c =
+    simp (
+      sym (c .before .before .before .before .before .extents-check2 .ensures) ∙ ap checkOf (c .before .before .before .enum-told .given .1),
+      c .used-check .ensures,
+      c .before .before .is-bounded .ensures,
+      mul-one,
+    )
 
 pub head-check2-spec : {M : Type 1} → statement M
 head-check2-spec =
@@ -46,6 +55,7 @@ head-check2-spec =
     extents-check2-requires
     enum-known-r
     enum-told
+    is-bounded-requires
     mul-used-check
     used-check-requires
     returns

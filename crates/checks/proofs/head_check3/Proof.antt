@@ -25,11 +25,17 @@ enum-told c = search needs
 in-bounds : (c : tie.After-enum-told) → InBounds (extents3 (c .before .before .before .args .e))
 in-bounds c = extents-passed _ (sym (c .before .before .extents-check3 .ensures) ∙ ap checkOf (c .enum-told .given .1))
 
+all-bounded-requires : tie.Need-all-bounded-requires
+all-bounded-requires c κs = search needs
+
+cuts-in-bounds-requires : tie.Need-cuts-in-bounds-requires
+cuts-in-bounds-requires c κs = search needs
+
 mul-used-check : tie.Need-mul-used-check
-mul-used-check c = let p = in-bounds (c .before) in fits-le (mul-le-mul (p .0 .2 .1) (p .0 .2 .2 .1)) (fits-lit {n = 4096 * 4096} tt)
+mul-used-check c = let p = in-bounds (c .before .before .before) in fits-le (mul-le-mul (p .0 .2 .1) (p .0 .2 .2 .1)) (fits-lit {n = 4096 * 4096} tt)
 
 mul-used-check-2 : tie.Need-mul-used-check-2
-mul-used-check-2 c = let p = in-bounds (c .before .before) in fits-le (mul-le-mul (p .0 .1) (mul-le-mul (p .0 .2 .1) (p .0 .2 .2 .1))) (fits-lit {n = 4096 * (4096 * 4096)} tt)
+mul-used-check-2 c = let p = in-bounds (c .before .before .before .before) in fits-le (mul-le-mul (p .0 .1) (mul-le-mul (p .0 .2 .1) (p .0 .2 .2 .1))) (fits-lit {n = 4096 * (4096 * 4096)} tt)
 
 used-check-requires : tie.Need-used-check-requires
 used-check-requires c κs = search needs
@@ -40,7 +46,14 @@ returns c = simp (sym (c .before .before .before .extents-check3 .ensures) ∙ a
 
 returns-2 : tie.Need-returns-2
 unfolding headRefusal usedRefusal onePerCell cells
-returns-2 c = simp (sym (c .before .before .before .before .before .extents-check3 .ensures) ∙ ap checkOf (c .before .before .before .enum-told .given .1), c .used-check .ensures, mul-one)
+returns-2 c =
+    simp (
+      sym (c .before .before .before .before .before .before .before .extents-check3 .ensures) ∙ ap checkOf (c .before .before .before .before .before .enum-told .given .1),
+      c .used-check .ensures,
+      c .before .before .before .before .all-bounded .ensures,
+      c .before .before .before .cuts-in-bounds .ensures,
+      mul-one,
+    )
 
 pub head-check3-spec : {M : Type 1} → statement M
 head-check3-spec =
@@ -49,6 +62,8 @@ head-check3-spec =
     extents-check3-requires
     enum-known-r
     enum-told
+    all-bounded-requires
+    cuts-in-bounds-requires
     mul-used-check
     mul-used-check-2
     used-check-requires

@@ -1,7 +1,7 @@
 -- The signs are tested first; the sizes then decide, and being finite follows.
 use mathlib.Core.Path.{sym, _∙_}
 use borrow.Author.Needs.{needs}
-use Rattle.rules.specs.TheGridAndItsBounds.{bounded}
+use Rattle.rules.specs.TheGridAndItsBounds.{pairBounded, allPairs, bounded}
 use Rattle.types.specs.Models.{modelOf}
 use Rattle.laws.specs.ModelBounds.{bounded-by-size}
 use Rattle.laws.specs.Literals.{zero-is}
@@ -12,18 +12,19 @@ sizes-bounded-requires : tie.Need-sizes-bounded-requires
 sizes-bounded-requires c κs = search needs
 
 returns : tie.Need-returns
-returns c = c .sizes-bounded .ensures ∙ sym (bounded-by-size (modelOf (c .before .before .before .before .before .before .before .args .m)) (rw zero-is at (c .before .before .before .before .before .if1 .taken)) (rw zero-is at (c .before .before .before .if2 .taken)) (rw zero-is at (c .before .if3 .taken)))
+unfolding bounded allPairs
+returns c = c .sizes-bounded .ensures ∙ sym (bounded-by-size _ (modelOf (c .before .before .before .before .before .before .before .args .m) .lowest) (rw zero-is at (c .before .before .before .before .before .if1 .taken)) (rw zero-is at (c .before .before .before .if2 .taken)) (rw zero-is at (c .before .if3 .taken)))
 
 returns-2 : tie.Need-returns-2
-unfolding bounded
+unfolding bounded allPairs pairBounded
 returns-2 c = simp (rw zero-is at (c .before .before .before .before .if1 .taken), rw zero-is at (c .before .before .if2 .taken), rw zero-is at (c .if3 .left))
 
 returns-3 : tie.Need-returns-3
-unfolding bounded
+unfolding bounded allPairs pairBounded
 returns-3 c = simp (rw zero-is at (c .before .before .if1 .taken), rw zero-is at (c .if2 .left))
 
 returns-4 : tie.Need-returns-4
-unfolding bounded
+unfolding bounded allPairs pairBounded
 returns-4 c = simp (rw zero-is at (c .if1 .left))
 
 pub is-bounded-spec : {M : Type 1} → statement M

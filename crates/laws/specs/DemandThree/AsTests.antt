@@ -4,8 +4,8 @@ use mathlib.Core.Path.{_≡_, refl, sym, subst}
 use mathlib.Core.List.{List, [], _∷_, List·Memᴰ, List·Memᴰ·cases-cons, List·Memᴰ·not-nil}
 use mathlib.Core.Logic.{inl, inr}
 use mathlib.Core.Bool.{Bool, true, false, not, _&&_}
-use Prim.Native.Nat.{ℕ, zero, suc, _<_}
-use native.Mathlib.Nat.{not-suc-le-zero, le-of-suc-le-suc}
+use Prim.Native.Nat.{ℕ, zero, suc, _+_, _<_}
+use native.Mathlib.Nat.{not-suc-le-zero, le-of-suc-le-suc, add-zero, add-suc, suc-add, zero-add}
 use native.Mathlib.Omega.{arith}
 use lib.Dec.{T, eqb, eqb→eq, T-not}
 use lib.ListN.{length, getD}
@@ -22,6 +22,11 @@ abbrev pub every : {A : Type 0} → (A → Bool) → List A → Bool
 every test [] = true
 every test (x ∷ xs) = test x && every test xs
 
+-- a test that goes by the place too, which is counted from k
+abbrev pub everyAt : {A : Type 0} → (ℕ → A → Bool) → ℕ → List A → Bool
+everyAt test k [] = true
+everyAt test k (x ∷ xs) = test k x && everyAt test (suc k) xs
+
 abbrev isGiven : {A : Type 0} → Answer A → Bool
 isGiven (given x) = true
 isGiven (refused r) = false
@@ -35,7 +40,7 @@ sweepTests f h g bs =
     ∷ every (λ b. isGiven (beamMarks f (h .extents) b)) bs ∷ []
 
 abbrev pub multiplesTests : Format → Head → Grid → List Bool
-multiplesTests f h g = modelOfUnits f (h .model) ∷ every (ofUnits f) (g .odds) ∷ every (λ o. clearOfFloor f (stepsAt (h .model) 0) o) (g .odds) ∷ []
+multiplesTests f h g = modelOfUnits f (h .model) ∷ every (ofUnits f) (g .odds) ∷ everyAt (λ i o. clearOfFloor f (stepsAt (h .model) i) o) 0 (g .odds) ∷ []
 
 abbrev pub allPass : List Bool → Bool
 allPass [] = true
@@ -45,6 +50,11 @@ pub every-at : {A : Type 0} (test : A → Bool) (d : A) (xs : List A) → T (eve
 every-at test d [] t i l = absurd (not-suc-le-zero l)
 every-at test d (x ∷ xs) t zero l = and-l (test x) (every test xs) t
 every-at test d (x ∷ xs) t (suc i) l = every-at test d xs (and-r (test x) (every test xs) t) i (le-of-suc-le-suc l)
+
+at-each : {A : Type 0} (test : ℕ → A → Bool) (d : A) (k : ℕ) (xs : List A) → T (everyAt test k xs) → (i : ℕ) → i < length xs → T (test (k + i) (getD xs i d))
+at-each test d k [] t i l = absurd (not-suc-le-zero l)
+at-each test d k (x ∷ xs) t zero l = rw add-zero (and-l (test k x) (everyAt test (suc k) xs) t)
+at-each test d k (x ∷ xs) t (suc i) l = rw (add-suc, ← suc-add) (at-each test d (suc k) xs (and-r (test k x) (everyAt test (suc k) xs) t) i (le-of-suc-le-suc l))
 
 every-of : {A : Type 0} (test : A → Bool) (xs : List A) → T (every test xs) → (x : A) → List·Memᴰ x xs → T (test x)
 every-of test [] t x d = absurd (List·Memᴰ·not-nil d)
@@ -99,15 +109,16 @@ sweep-holds f h g bs t₀ =
     }
 
 pub multiples-hold : (f : Format) (h : Head) (g : Grid) → T (onePerCell (h .extents) (length (g .odds))) → T (allPass (multiplesTests f h g)) → Multiples f h g
-unfolding onePerCell stepsAt
+unfolding onePerCell
 multiples-hold f h g s t₀ =
     let a₀ = modelOfUnits f (h .model) in
     let a₁ = every (ofUnits f) (g .odds) in
-    let a₂ = every (λ o. clearOfFloor f (stepsAt (h .model) 0) o) (g .odds) in
+    let a₂ = everyAt (λ i o. clearOfFloor f (stepsAt (h .model) i) o) 0 (g .odds) in
     let t₁ = rest a₀ (a₁ ∷ a₂ ∷ []) t₀ in
     let n : length (g .odds) ≡ cells (h .extents) = eqb→eq (length (g .odds)) (cells (h .extents)) s in
     record {
       model = first a₀ (a₁ ∷ a₂ ∷ []) t₀;
       odds = λ i l. every-at (ofUnits f) nan (g .odds) (first a₁ (a₂ ∷ []) t₁) i (omega arith);
-      clear-of-floor = λ i l. every-at (λ o. clearOfFloor f (stepsAt (h .model) 0) o) nan (g .odds) (first a₂ [] (rest a₁ (a₂ ∷ []) t₁)) i (omega arith);
+      clear-of-floor = λ i l. subst (λ (j : ℕ). T (clearOfFloor f (stepsAt (h .model) j) (getD (g .odds) i nan))) (zero-add i)
+          (at-each (λ j o. clearOfFloor f (stepsAt (h .model) j) o) nan 0 (g .odds) (first a₂ [] (rest a₁ (a₂ ∷ []) t₁)) i (omega arith));
     }

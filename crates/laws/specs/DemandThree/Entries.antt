@@ -13,7 +13,7 @@ use lib.ListN.{length, length-replicate, replicate}
 use borrow.Author.Tests.{le-ltb, lt-ltb, le-leb, leb-false}
 use Rattle.rules.specs.RefusalNumbers.{Refusal, given}
 use Rattle.rules.specs.RefusalNumbers.Entries.{firstTooSmall, extentsRefusal, headRefusal, Uses, Outcome, ofIntegrated, usesOf, begin-scan, beams, beginScanEntry, updateScanEntry, updateBeamsEntry}
-use Rattle.rules.specs.TheGridAndItsBounds.{Model, Head, Grid, leastExtent, allAtLeast, fitsCapacity, extentsInBounds, bounded, onePerCell}
+use Rattle.rules.specs.TheGridAndItsBounds.{Model, Head, Grid, leastExtent, allAtLeast, fitsCapacity, extentsInBounds, bounded, cutsInBounds, onePerCell}
 use Rattle.rules.specs.MarksAndFrames.{highestFrame, openFrame, openedFrame, openedStamps}
 use Rattle.rules.specs.OneBeam.{Beam, flatShape, beamsOf}
 use Rattle.laws.specs.DemandThree.{Sweep, Settled, frameOpened, gridOpened, sweep}
@@ -59,13 +59,14 @@ module _ (f : Format) (h : Head) (g : Grid) (bs : List Beam) (s : Sweep f h g bs
   unfolding beginScanEntry headRefusal
   begins = rw (extents-pass (h .extents) (s .extents), is-true (onePerCell (h .extents) (length (g .stamps))) (s .stamps-per-cell)) refl
 
-  -- a slice of beams then leaves what the theorem speaks of
-  pub integrates : updateBeamsEntry f (headOpened h) bs (gridOpened h g) ≡ ofIntegrated (sweep f h g bs)
+  -- a slice of beams then leaves what the theorem speaks of; the entry tries the cuts too
+  pub integrates : T (cutsInBounds (h .extents) (h .model)) → updateBeamsEntry f (headOpened h) bs (gridOpened h g) ≡ ofIntegrated (sweep f h g bs)
   unfolding updateBeamsEntry headRefusal
-  integrates =
+  integrates cuts =
       rw (
         extents-pass (h .extents) (s .extents),
         is-true (bounded (h .model)) (s .model),
+        is-true (cutsInBounds (h .extents) (h .model)) cuts,
         is-true (onePerCell (h .extents) (length (g .odds))) (s .odds-per-cell),
         opened-length (h .frame) (g .stamps),
         is-true (onePerCell (h .extents) (length (g .stamps))) (s .stamps-per-cell),
@@ -74,17 +75,17 @@ module _ (f : Format) (h : Head) (g : Grid) (bs : List Beam) (s : Sweep f h g bs
       refl
 
   -- so whatever meets its contract leaves lists of which demand 3 holds
-  pub settles-slice : (out : Outcome ℕ Grid) → out ≡ updateBeamsEntry f (headOpened h) bs (gridOpened h g)
+  pub settles-slice : T (cutsInBounds (h .extents) (h .model)) → (out : Outcome ℕ Grid) → out ≡ updateBeamsEntry f (headOpened h) bs (gridOpened h g)
       → (out .lent ≡ sweep f h g bs .grid) × Settled f h g bs
-  settles-slice out e = (ap (λ (o : Outcome ℕ Grid). o .lent) (e ∙ integrates), demand-three f h g bs s)
+  settles-slice cuts out e = (ap (λ (o : Outcome ℕ Grid). o .lent) (e ∙ integrates cuts), demand-three f h g bs s)
 
 -- the same of `update_scan`, whose flat list is those beams
 module _ (f : Format) (h : Head) (g : Grid) (numbers : List Float) (hits : List ℕ) (s : Sweep f h g (beamsOf (length (h .extents)) numbers hits)) where
-  pub scans : T (flatShape (length (h .extents)) numbers hits)
+  pub scans : T (cutsInBounds (h .extents) (h .model)) → T (flatShape (length (h .extents)) numbers hits)
       → updateScanEntry f (headOpened h) numbers hits (gridOpened h g) ≡ ofIntegrated (sweep f h g (beamsOf (length (h .extents)) numbers hits))
-  scans t = flat-as-structs f (headOpened h) numbers hits (gridOpened h g) t ∙ integrates f h g (beamsOf (length (h .extents)) numbers hits) s
+  scans cuts t = flat-as-structs f (headOpened h) numbers hits (gridOpened h g) t ∙ integrates f h g (beamsOf (length (h .extents)) numbers hits) s cuts
 
-  pub settles : T (flatShape (length (h .extents)) numbers hits) → (out : Outcome ℕ Grid) → out ≡ updateScanEntry f (headOpened h) numbers hits (gridOpened h g)
+  pub settles : T (cutsInBounds (h .extents) (h .model)) → T (flatShape (length (h .extents)) numbers hits) → (out : Outcome ℕ Grid) → out ≡ updateScanEntry f (headOpened h) numbers hits (gridOpened h g)
       → (out .lent ≡ sweep f h g (beamsOf (length (h .extents)) numbers hits) .grid) × Settled f h g (beamsOf (length (h .extents)) numbers hits)
-  settles t out e =
-      settles-slice f h g (beamsOf (length (h .extents)) numbers hits) s out (e ∙ flat-as-structs f (headOpened h) numbers hits (gridOpened h g) t)
+  settles cuts t out e =
+      settles-slice f h g (beamsOf (length (h .extents)) numbers hits) s cuts out (e ∙ flat-as-structs f (headOpened h) numbers hits (gridOpened h g) t)

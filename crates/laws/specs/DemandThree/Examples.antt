@@ -2,10 +2,12 @@
 -- By computation of the definitions.
 use Prim.Native.Nat.{ℕ}
 use mathlib.Core.Bool.{true, false}
-use mathlib.Core.List.{List, [], _∷_}
+use mathlib.Core.List.{List, [], _∷_, _++_}
+use lib.ListN.{replicate}
 use lib.Ieee.{Float, binary32, binary64, round, add, sub, neg, mul, div, lt, le, eq, ofInt, toSigned, toUnsigned, ofBits, fits}
 use Rattle.rules.specs.Floats.{zeroF, halfF, numberF, mag, allFinite}
-use Rattle.rules.specs.TheGridAndItsBounds.{Model, Head, Grid, cells, allAtLeast, allAtMost, fitsCapacity, extentsInBounds, stridesFrom, strides, bounded, floor, onePerCell}
+use Rattle.rules.specs.TheGridAndItsBounds.{Model, plainModel, Head, Grid, cells, allAtLeast, allAtMost, fitsCapacity, extentsInBounds, stridesFrom, strides, bounded, floor, onePerCell}
+use Rattle.rules.specs.TheGridAndItsBounds.{pairBounded, allPairs, pairAt}
 use Rattle.rules.specs.Coordinates.{truncated, truncatedPoint, within, along, offAxes, onGridFrom, timesStrides, flatIndex}
 use Rattle.rules.specs.TheLine.{delta, deltas, larger, primaryFrom, primaryOf, increment, stepTo, axisOf, axesOf, thresholdOf, cellsYielded, lineBetween, plotter}
 use Rattle.rules.specs.TheLine.{otherAfter, primaryAfter, axisAfter, axesAfter, lastStep, earlierStep, stepOf, cellsWithin, lineCells}
@@ -13,7 +15,7 @@ use Rattle.rules.specs.MarksAndFrames.{stepsAt, stampOf, clamp, limited, freed,
 use Rattle.rules.specs.MarksAndFrames.{openedFrame, openedStamps, openFrame}
 use Rattle.rules.specs.OneBeam.{Beam, largerOf, smallerOf, cutTo, slab, slabs, directions, pointAt, bothBeyond, allWithin, isInside, clampAxis, clampPoint}
 use Rattle.rules.specs.OneBeam.{clippedAt, clip, marksAlong, marksBetween, beamMarks, integratedBeam, integratedFrom, integrated}
-use Rattle.laws.specs.DemandThree.{Sweep, Multiples, multiple, oddsWithin, ofUnits, modelOfUnits, clearOfFloor}
+use Rattle.laws.specs.DemandThree.{Sweep, Multiples, multiple, oddsWithin, ofUnits, pairOfUnits, modelOfUnits, clearOfFloor}
 use Rattle.laws.specs.DemandThree.AsTests.{sweep-holds, multiples-hold}
 
 -- the binary64 number nearest to n / d, and to - n / d
@@ -25,14 +27,24 @@ minus n d = round binary64 true n d
 
 -- document 01's model: occupied 0.75, free -0.5, ceiling 4
 abbrev pub model : Model
-model = record { occupied = plus 3 4; free = minus 1 2; ceiling = plus 4 1 }
+model = plainModel (record { occupied = plus 3 4; free = minus 1 2 }) (plus 4 1)
 
--- maps of 2 by 2 and of 2 by 2 by 2, in frame 1; the sweep opens frame 2
+-- the same in three bands, with smaller steps above
+abbrev bands : Model
+bands =
+    record {
+      lowest = model .lowest;
+      above = record { cut = 1; pair = record { occupied = plus 1 2; free = minus 1 4 } } ∷ record { cut = 2; pair = record { occupied = plus 1 4; free = minus 1 8 } } ∷ [];
+      ceiling = plus 4 1;
+      layer = 4;
+    }
+
+-- maps of 2 by 2 and of 2 by 2 by 3, in frame 1; the sweep opens frame 2
 abbrev pub head2 : Head
 head2 = record { extents = 2 ∷ 2 ∷ []; model = model; frame = 1 }
 
 abbrev head3 : Head
-head3 = record { extents = 2 ∷ 2 ∷ 2 ∷ []; model = model; frame = 1 }
+head3 = record { extents = 2 ∷ 2 ∷ 3 ∷ []; model = bands; frame = 1 }
 
 -- a beam that hits cell 1, and one that leaves it clear; the points' last coordinates are added for three axes
 abbrev pub cloud : List Float → Beam
@@ -49,7 +61,7 @@ abbrev grid2 : Grid
 grid2 = record { odds = odds4; stamps = 0 ∷ 1 ∷ 2 ∷ 3 ∷ [] }
 
 abbrev grid3 : Grid
-grid3 = record { odds = minus 4 1 ∷ minus 13 4 ∷ zeroF ∷ plus 15 4 ∷ odds4; stamps = 0 ∷ 1 ∷ 2 ∷ 3 ∷ 0 ∷ 0 ∷ 0 ∷ 0 ∷ [] }
+grid3 = record { odds = odds4 ++ odds4 ++ odds4; stamps = 0 ∷ 1 ∷ 2 ∷ 3 ∷ replicate 8 0 }
 
 -- Opening the last of these opens the definitions that the examples compute through, and the library's float operations.
 unfoldable openedFloats : ℕ
@@ -57,7 +69,7 @@ unfolding numberF mag allFinite round add sub neg mul div lt le eq ofInt toSigne
 openedFloats = 0
 
 unfoldable openedGrid : ℕ
-unfolding cells allAtLeast allAtMost fitsCapacity extentsInBounds stridesFrom strides bounded floor onePerCell
+unfolding cells allAtLeast allAtMost fitsCapacity extentsInBounds stridesFrom strides pairBounded allPairs bounded floor pairAt onePerCell
 openedGrid = 0
 
 unfoldable openedCells : ℕ
@@ -85,7 +97,7 @@ unfolding marksAlong marksBetween beamMarks integratedBeam integratedFrom integr
 openedBeams = 0
 
 unfoldable openedPremises : ℕ
-unfolding multiple oddsWithin ofUnits modelOfUnits clearOfFloor
+unfolding multiple oddsWithin ofUnits pairOfUnits modelOfUnits clearOfFloor
 openedPremises = 0
 
 unfoldable pub opened : ℕ

@@ -8,7 +8,7 @@ use lib.IntN.{negsuc}
 use lib.ListN.{replicate, set}
 use lib.Ieee.{Float, nan, fin, Format, binary32, binary64, ofBits}
 use Rattle.rules.specs.Floats.{zeroF, halfF}
-use Rattle.rules.specs.TheGridAndItsBounds.{Model, Head, Grid}
+use Rattle.rules.specs.TheGridAndItsBounds.{Model, plainModel, Head, Grid}
 use Rattle.rules.specs.MarksAndFrames.{cellAt}
 use Rattle.rules.specs.OneBeam.{Beam}
 use Rattle.laws.specs.DemandThree.{sweep}
@@ -38,11 +38,11 @@ allBut i = set (replicate 11 true) i false
 
 -- occupied 0.01, free -0.02, ceiling 4: no multiples of the unit
 abbrev decimal : Model
-decimal = record { occupied = plus 1 100; free = minus 2 100; ceiling = plus 4 1 }
+decimal = plainModel (record { occupied = plus 1 100; free = minus 2 100 }) (plus 4 1)
 
 -- occupied 2 ^ -8, free -2 ^ -8, ceiling 1,048,576: multiples of binary32's unit
 abbrev wide : Model
-wide = record { occupied = plus 1 256; free = minus 1 256; ceiling = plus 1048576 1 }
+wide = plainModel (record { occupied = plus 1 256; free = minus 1 256 }) (plus 1048576 1)
 
 -- a beam that is refused
 abbrev broken : Beam
@@ -50,7 +50,7 @@ broken = record { origin = nan ∷ halfF ∷ []; endpoint = halfF ∷ halfF ∷ 
 
 -- occupied 0.25, free 0.5, ceiling 4: the clear step is above zero
 abbrev upward : Model
-upward = record { occupied = plus 1 4; free = plus 1 2; ceiling = plus 4 1 }
+upward = plainModel (record { occupied = plus 1 4; free = plus 1 2 }) (plus 4 1)
 
 -- a map of 2 by 2 with no stamps
 abbrev unstampable : Grid

@@ -2,7 +2,7 @@
 -- Assumes nothing.
 use mathlib.Core.Path.{_≡_, refl, ap, _∙_, subst}
 use mathlib.Core.Logic.{_⊎_, inl, inr}
-use Prim.Native.Nat.{ℕ, _+_, _*_, _^_, _≤_, _<_}
+use Prim.Native.Nat.{ℕ, _+_, _*_, _/_, _^_, _≤_, _<_}
 use native.Mathlib.Nat.{zero-mul}
 use native.Mathlib.Omega.{arith}
 use mathlib.Core.Bool.{Bool, true, false, _&&_, cond}
@@ -12,13 +12,14 @@ use lib.Ieee.Scale.{finite}
 use lib.Ieee.Fits.{and-l, and-r}
 use lib.Ieee.Exact.{HasValue}
 use Rattle.rules.specs.Floats.{zeroF}
-use Rattle.rules.specs.TheGridAndItsBounds.{Model, mostSize, bounded, floor}
-use Rattle.rules.specs.MarksAndFrames.{Steps, stepsAt, freed}
+use Rattle.rules.specs.TheGridAndItsBounds.{Pair, Model, mostSize, pairBounded, bounded, floor}
+use Rattle.rules.specs.MarksAndFrames.{Steps, pairFor, stepsAt, freed}
+use Rattle.laws.specs.Bands.{pair-passes}
 use Rattle.laws.specs.Floats.Tests.{or-cases}
 use Rattle.laws.specs.DemandThree.Dyadic.{Units, Signed, dif, at, dif-units, dif-sub, neg-units-are, units-val, lt-signed, le-signed}
 use Rattle.laws.specs.DemandThree.Multiple.{many, negative, multiple-units, plus, less, own-value}
 use Rattle.laws.specs.DemandThree.TakeBack.{alone, takenBack, most, most-fits, StepUnits, units-dif, take-back}
-use Rattle.laws.specs.DemandThree.{places, multiple, oddsWithin, ofUnits, largestSize, modelOfUnits, clearOfFloor}
+use Rattle.laws.specs.DemandThree.{places, multiple, oddsWithin, ofUnits, largestSize, pairOfUnits, modelOfUnits, clearOfFloor}
 
 largest-value : (f : Format) → HasValue (largestSize f) false (most f) (2 ^ places f)
 largest-value binary32 = (refl, refl)
@@ -111,27 +112,31 @@ three true true false t = absurd t
 three true false c t = absurd t
 three false b c t = absurd t
 
-signs : (m : Model) → T (bounded m) → T (lt zeroF (m .occupied)) × T (lt (m .free) zeroF) × T (lt zeroF (m .ceiling))
-unfolding bounded
-signs m t =
-    first-three (lt zeroF (m .occupied)) (lt (m .free) zeroF) (lt zeroF (m .ceiling)) (finite (m .occupied)) (finite (m .free)) (finite (m .ceiling))
-    (le (m .occupied) mostSize) (le (neg mostSize) (m .free)) (le (m .ceiling) mostSize) t
+signs : (c : Float) (p : Pair) → T (pairBounded c p) → T (lt zeroF (p .occupied)) × T (lt (p .free) zeroF) × T (lt zeroF c)
+unfolding pairBounded
+signs c p t =
+    first-three (lt zeroF (p .occupied)) (lt (p .free) zeroF) (lt zeroF c) (finite (p .occupied)) (finite (p .free)) (finite c)
+    (le (p .occupied) mostSize) (le (neg mostSize) (p .free)) (le c mostSize) t
 
 pub of-units : (f : Format) (x : Float) → T (ofUnits f x) → T (fits f x) × T (multiple f x)
 unfolding ofUnits
 of-units f x t = (and-l (fits f x) (multiple f x) t, and-r (fits f x) (multiple f x) t)
 
+-- a cell's steps are its band's
 pub step-units : (f : Format) (m : Model) (i : ℕ) → T (bounded m) → T (modelOfUnits f m)
-    → StepUnits f (stepsAt m i) (many f (m .occupied)) (many f (m .free)) (many f (m .ceiling))
-unfolding modelOfUnits stepsAt floor
-step-units f m i b t =
-    let a = ofUnits f (m .occupied) && ofUnits f (m .free) && ofUnits f (m .ceiling) in
-    let z = le (m .occupied) (largestSize f) && le (neg (largestSize f)) (m .free) && le (m .ceiling) (largestSize f) in
-    let u = three (ofUnits f (m .occupied)) (ofUnits f (m .free)) (ofUnits f (m .ceiling)) (and-l a z t) in
-    let w = three (le (m .occupied) (largestSize f)) (le (neg (largestSize f)) (m .free)) (le (m .ceiling) (largestSize f)) (and-r a z t) in
-    let s = signs m b in
-    let o = positive-units f (m .occupied) (of-units f (m .occupied) (u .0) .0) (of-units f (m .occupied) (u .0) .1) (s .0) (w .0) in
-    let n = negative-units f (m .free) (of-units f (m .free) (u .1) .0) (of-units f (m .free) (u .1) .1) (s .1) (w .1) in
+    → StepUnits f (stepsAt m i) (many f (pairFor m i .occupied)) (many f (pairFor m i .free)) (many f (m .ceiling))
+unfolding bounded modelOfUnits pairOfUnits stepsAt floor
+step-units f m i bounds units =
+    let p = pairFor m i in
+    let b = pair-passes (pairBounded (m .ceiling)) (i / m .layer) (m .lowest) (m .above) bounds in
+    let t = pair-passes (pairOfUnits f (m .ceiling)) (i / m .layer) (m .lowest) (m .above) units in
+    let a = ofUnits f (p .occupied) && ofUnits f (p .free) && ofUnits f (m .ceiling) in
+    let z = le (p .occupied) (largestSize f) && le (neg (largestSize f)) (p .free) && le (m .ceiling) (largestSize f) in
+    let u = three (ofUnits f (p .occupied)) (ofUnits f (p .free)) (ofUnits f (m .ceiling)) (and-l a z t) in
+    let w = three (le (p .occupied) (largestSize f)) (le (neg (largestSize f)) (p .free)) (le (m .ceiling) (largestSize f)) (and-r a z t) in
+    let s = signs (m .ceiling) p b in
+    let o = positive-units f (p .occupied) (of-units f (p .occupied) (u .0) .0) (of-units f (p .occupied) (u .0) .1) (s .0) (w .0) in
+    let n = negative-units f (p .free) (of-units f (p .free) (u .1) .0) (of-units f (p .free) (u .1) .1) (s .1) (w .1) in
     let c = positive-units f (m .ceiling) (of-units f (m .ceiling) (u .2) .0) (of-units f (m .ceiling) (u .2) .1) (s .2) (w .2) in
     record {
       occupied = o .0;
@@ -201,6 +206,6 @@ pub exact : (f : Format) (m : Model) (i : ℕ) (o : Float) → T (bounded m) →
 unfolding oddsWithin clearOfFloor stepsAt
 exact f m i o b n t w c =
     let s = stepsAt m i in
-    settles f s (many f (m .occupied)) (many f (m .free)) (many f (m .ceiling)) (step-units f m i b n) o (of-units f o w .0) (of-units f o w .1)
+    settles f s (many f (pairFor m i .occupied)) (many f (pairFor m i .free)) (many f (m .ceiling)) (step-units f m i b n) o (of-units f o w .0) (of-units f o w .1)
     (and-l (le (floor m) o) (le o (m .ceiling)) t) (and-r (le (floor m) o) (le o (m .ceiling)) t)
     (or-cases (le o (s .floor)) (lt (sub f (s .floor) (s .free)) o) c)

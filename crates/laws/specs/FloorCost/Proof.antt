@@ -9,8 +9,8 @@ use lib.Dec.{T, le→leb}
 use lib.ListN.{length, getD}
 use lib.Ieee.{Float, nan, Format, add, le}
 use lib.Ieee.Fits.{and-l, and-r}
-use Rattle.rules.specs.TheGridAndItsBounds.{Model, Head, Grid, cells, bounded, floor}
-use Rattle.rules.specs.MarksAndFrames.{Steps, stepsAt, stampOf, freed, occupy}
+use Rattle.rules.specs.TheGridAndItsBounds.{Model, Head, Grid, cells, bounded, floor, cutsInBounds}
+use Rattle.rules.specs.MarksAndFrames.{Steps, pairFor, stepsAt, stampOf, freed, occupy}
 use Rattle.rules.specs.OneBeam.{Beam, flatShape, beamsOf}
 use Rattle.rules.specs.RefusalNumbers.Entries.{Outcome, updateScanEntry, updateBeamsEntry}
 use Rattle.laws.specs.Floats.Tests.{order}
@@ -102,10 +102,10 @@ module _ (f : Format) (s : Steps) (O F C : ℕ) (u : StepUnits f s O F C) where
 -- ---- one cell, from the premises
 module _ (f : Format) (m : Model) (i : ℕ) (o : Float) (b : T (bounded m)) (n : T (modelOfUnits f m)) (t : T (oddsWithin m o)) (w : T (ofUnits f o)) where
   O : ℕ
-  O = many f (m .occupied)
+  O = many f (pairFor m i .occupied)
 
   F : ℕ
-  F = many f (m .free)
+  F = many f (pairFor m i .free)
 
   C : ℕ
   C = many f (m .ceiling)
@@ -155,11 +155,11 @@ module _ (f : Format) (h : Head) (g : Grid) (bs : List Beam) (p : Sweep f h g bs
   floor-cost = record { no-higher = λ i l w. hit-cell i l w .no-higher; one-clear-step = λ i l w. hit-cell i l w .one-clear-step }
 
   -- so whatever meets the contract of a slice of beams, or of `update_scan`, leaves lists of which it holds
-  pub costs-slice : (out : Outcome ℕ Grid) → out ≡ updateBeamsEntry f (headOpened h) bs (gridOpened h g)
+  pub costs-slice : T (cutsInBounds (h .extents) (h .model)) → (out : Outcome ℕ Grid) → out ≡ updateBeamsEntry f (headOpened h) bs (gridOpened h g)
       → (out .lent ≡ sweep f h g bs .grid) × FloorCost f h g bs
-  costs-slice out q = (settles-slice f h g bs p out q .0, floor-cost)
+  costs-slice cuts out q = (settles-slice f h g bs p cuts out q .0, floor-cost)
 
 module _ (f : Format) (h : Head) (g : Grid) (numbers : List Float) (hits : List ℕ) (p : Sweep f h g (beamsOf (length (h .extents)) numbers hits)) (e : InUnits f h g) where
-  pub costs : T (flatShape (length (h .extents)) numbers hits) → (out : Outcome ℕ Grid) → out ≡ updateScanEntry f (headOpened h) numbers hits (gridOpened h g)
+  pub costs : T (cutsInBounds (h .extents) (h .model)) → T (flatShape (length (h .extents)) numbers hits) → (out : Outcome ℕ Grid) → out ≡ updateScanEntry f (headOpened h) numbers hits (gridOpened h g)
       → (out .lent ≡ sweep f h g (beamsOf (length (h .extents)) numbers hits) .grid) × FloorCost f h g (beamsOf (length (h .extents)) numbers hits)
-  costs t out q = (settles f h g numbers hits p t out q .0, floor-cost f h g (beamsOf (length (h .extents)) numbers hits) p e)
+  costs cuts t out q = (settles f h g numbers hits p cuts t out q .0, floor-cost f h g (beamsOf (length (h .extents)) numbers hits) p e)

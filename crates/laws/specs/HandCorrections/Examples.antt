@@ -8,7 +8,7 @@ use lib.Ieee.{Float, nan, binary64}
 use Rattle.rules.specs.Floats.{zeroF, halfF, oneF}
 use Rattle.rules.specs.RefusalNumbers.{given, refused, rayInList, badBuffer}
 use Rattle.rules.specs.RefusalNumbers.Entries.{Outcome, firstTooSmall, extentsRefusal, headRefusal, resetEntry, beginScanEntry, setLogOddsEntry, updateBeamsEntry}
-use Rattle.rules.specs.TheGridAndItsBounds.{Head, Grid, freshGrid}
+use Rattle.rules.specs.TheGridAndItsBounds.{Head, Grid, freshGrid, rising, cutsBelow, cutsInBounds}
 use Rattle.rules.specs.MarksAndFrames.{setOdds}
 use Rattle.rules.specs.OneBeam.{Beam}
 use Rattle.laws.specs.DemandThree.Examples.{model, head2, cloud, clear, opened}
@@ -59,7 +59,7 @@ pub record Cases : Type 0 where
       × (resetOf (after binary64 open-scan short) .lent .stamps ≡ 0 ∷ 0 ∷ 0 ∷ 0 ∷ [])
 
 pub cases : Cases
-unfolding opened firstTooSmall extentsRefusal headRefusal resetEntry beginScanEntry setLogOddsEntry updateBeamsEntry setOdds freshGrid
+unfolding opened firstTooSmall extentsRefusal headRefusal resetEntry beginScanEntry setLogOddsEntry updateBeamsEntry setOdds freshGrid rising cutsBelow cutsInBounds
 cases =
     record {
       counts-added = (refl, refl, refl);

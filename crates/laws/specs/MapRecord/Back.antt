@@ -8,24 +8,25 @@ use native.Mathlib.Omega.{arith}
 use lib.Dec.{leb}
 use lib.ListN.{length, drop, length-append}
 use lib.Ieee.{Float}
-use borrow.Author.Tests.{leb-true}
-use Rattle.rules.specs.RefusalNumbers.{given, refused, noRoom}
+use borrow.Author.Tests.{leb-true, le-leb}
+use Rattle.rules.specs.RefusalNumbers.{given, refused, andThen, noRoom}
 use Rattle.rules.specs.RefusalNumbers.Entries.{headRefusal, usesOf, writing}
-use Rattle.rules.specs.TheGridAndItsBounds.{Model, Head, extentsInBounds, bounded}
+use Rattle.rules.specs.TheGridAndItsBounds.{Band, Model, Head, plainModel, extentsInBounds, pairBounded, allPairs, bounded}
 use Rattle.rules.specs.MarksAndFrames.{openFrame}
 use Rattle.rules.specs.MapRecord.{Stored, littleEndian, fromLittleEndian, field, fieldSize, extentBytes, extentsIn, floatBytes, floatsIn}
 use Rattle.rules.specs.MapRecord.{rowWidth, rowCount, rowsBytes, recordBytes, rowsOffset, rowsIn}
-use Rattle.rules.specs.MapRecord.{frameIn, modelFrom, recordOf, rowsChecked, recordSize, roomFor, writable}
-use Rattle.laws.specs.MapRecord.Words.{Are64, Held}
+use Rattle.rules.specs.MapRecord.{frameIn, modelFrom, recordOf, equalPairs, pairsChecked, rowsChecked, recordSize, roomFor, writable}
+use Rattle.laws.specs.MapRecord.Words.{Are64, Held, plainHead}
+use Rattle.laws.specs.MapRecord.Each.{both}
 use Rattle.laws.specs.MapRecord.Bytes.{little-endian-length, little-endian-back}
 use Rattle.laws.specs.MapRecord.Numbers.{extent-bytes-length, extents-back, float-bytes-length, floats-back}
-use Rattle.laws.specs.MapRecord.Fields.{field-length, field-contents, field-after, field-found, then-given}
-use Rattle.laws.specs.MapRecord.Rows.{rows-bytes-length, rows-back}
+use Rattle.laws.specs.MapRecord.Fields.{field-length, field-contents, field-after, field-found, sound-given, then-given}
+use Rattle.laws.specs.MapRecord.Rows.{rows-bytes-length, rows-back, rows-by-ceiling}
 use Rattle.laws.specs.MapRecord.Heads.{axes-few, extents-in-two-bytes, row-narrow, rows-are-cells, tests-of-writing}
 
 -- the model's numbers as the record orders them
 abbrev pub modelFloats : Model → List Float
-modelFloats m = m .occupied ∷ m .free ∷ m .ceiling ∷ []
+modelFloats m = m .lowest .occupied ∷ m .lowest .free ∷ m .ceiling ∷ []
 
 -- ---- the length
 -- a record is as long as its extents say
@@ -62,8 +63,9 @@ frame-back o es m frame odds rows t l e =
     ap (fromLittleEndian 4) (field-contents 3 bytes rows) ∙ little-endian-back 4 frame rows l in
     rw (here, is, t, field-after 3 bytes rows 4 four, e) refl
 
-model-back : (o : ℕ) (es : List ℕ) (m : Model) (s : Stored) (rest : List ℕ) → bounded m ≡ true → Are64 (modelFloats m)
-    → frameIn (o + fieldSize 24) es m rest ≡ given s → modelFrom o es (field 2 (floatBytes (modelFloats m)) ++ rest) ≡ given s
+-- one pair comes back, and no cuts
+model-back : (o : ℕ) (es : List ℕ) (m : Model) (s : Stored) (rest : List ℕ) → bounded (plainModel (m .lowest) (m .ceiling)) ≡ true → Are64 (modelFloats m)
+    → frameIn (o + fieldSize 24) es (plainModel (m .lowest) (m .ceiling)) rest ≡ given s → modelFrom o es (field 2 (floatBytes (modelFloats m)) ++ rest) ≡ given s
 unfolding modelFrom
 model-back o es m s rest t h e =
     let bytes = floatBytes (modelFloats m) in
@@ -100,21 +102,42 @@ model-64 h odds r (suc zero) l = r .free
 model-64 h odds r (suc (suc zero)) l = r .ceiling
 model-64 h odds r (suc (suc (suc i))) l = absurd (omega arith)
 
+-- the lowest pair is one of all
+pub lowest-bounded : (m : Model) → bounded m ≡ true → pairBounded (m .ceiling) (m .lowest) ≡ true
+unfolding bounded allPairs
+lowest-bounded m t = go (m .above) t
+  where
+    go : (bs : List Band) → allPairs (pairBounded (m .ceiling)) (m .lowest) bs ≡ true → pairBounded (m .ceiling) (m .lowest) ≡ true
+    go [] t = t
+    go (b ∷ bs) t = both (pairBounded (m .ceiling) (m .lowest)) (allPairs (pairBounded (m .ceiling)) (b .pair) bs) t .0
+
+plain-bounded : (m : Model) → bounded m ≡ true → bounded (plainModel (m .lowest) (m .ceiling)) ≡ true
+unfolding bounded allPairs
+plain-bounded m t = lowest-bounded m t
+
 -- what is known where writing is not refused: the odds are within their bounds, and the answer is the record's size, for which there is room
 pub record Writable (h : Head) (odds : List Float) (room n : ℕ) : Type 0 where
+  pub pairs : equalPairs (h .model .lowest) (h .model .above) ≡ true
   pub checked : rowsChecked (h .model) (rowWidth (h .extents)) (rowCount (h .extents)) (rowsOffset (length (h .extents))) odds ≡ given tt
   pub size : (recordSize (h .extents) ≡ n) × (n ≤ room)
 
 pub writable-is : (h : Head) (odds : List Float) (room n : ℕ) → writable h odds room ≡ given n → Writable h odds room n
-unfolding writable
+unfolding writable pairsChecked
 writable-is h odds room n e =
     let es = h .extents in
-    let c = then-given (rowsChecked (h .model) (rowWidth es) (rowCount es) (rowsOffset (length es)) odds) (λ (t : Unit {0}). roomFor es room) n e in
-    record { checked = c .1; size = room-given es room n (c .2) }
+    let p = sound-given (fieldSize (2 * length es)) (equalPairs (h .model .lowest) (h .model .above)) tt
+    (λ (s : Unit {0}). andThen (rowsChecked (h .model) (rowWidth es) (rowCount es) (rowsOffset (length es)) odds) (λ (t : Unit {0}). roomFor es room)) n e in
+    let c = then-given (rowsChecked (h .model) (rowWidth es) (rowCount es) (rowsOffset (length es)) odds) (λ (t : Unit {0}). roomFor es room) n (p .1) in
+    record { pairs = p .0; checked = c .1; size = room-given es room n (c .2) }
+
+pub is-writable : (h : Head) (odds : List Float) (room n : ℕ) → Writable h odds room n → writable h odds room ≡ given n
+unfolding writable pairsChecked roomFor
+is-writable h odds room n w =
+    rw (w .pairs, w .checked, le-leb (recordSize (h .extents)) room (omega (arith, w .size .0, w .size .1))) (ap given (w .size .0))
 
 pub record-back : (h : Head) (odds : List Float) (o : ℕ) → 0 < length (h .extents) → headRefusal (usesOf writing) h (length odds) 0 ≡ none
     → rowsChecked (h .model) (rowWidth (h .extents)) (rowCount (h .extents)) o odds ≡ given tt → Held h odds
-    → recordOf (length (h .extents)) (recordBytes h odds) ≡ given (record { head = h; odds = odds })
+    → recordOf (length (h .extents)) (recordBytes h odds) ≡ given (record { head = plainHead h; odds = odds })
 unfolding recordBytes
 record-back h odds o axes passes checked held =
     let es = h .extents in
@@ -122,10 +145,11 @@ record-back h odds o axes passes checked held =
     let all = tests-of-writing h (length odds) passes in
     let t = all .0 in
     let b = all .1 in
-    let rows = rows-back m (rowWidth es) (rowCount es) (fieldSize (2 * length es) + fieldSize 24 + fieldSize 4) o odds checked
+    let rows = rows-back (plainHead h .model) (rowWidth es) (rowCount es) (fieldSize (2 * length es) + fieldSize 24 + fieldSize 4) o odds
+    (rows-by-ceiling (plainHead h .model) m refl (rowWidth es) (rowCount es) o odds ∙ checked)
     (t .count ∙ rows-are-cells es axes) (held .each-odds) (row-narrow es (b .0)) in
     simp append-assoc
-    (extents-field-back es (record { head = h; odds = odds }) _ (t .extents) (axes-few es b)
+    (extents-field-back es (record { head = plainHead h; odds = odds }) _ (t .extents) (axes-few es b)
     (extents-back es _ (length es) refl (extents-in-two-bytes es (b .0)))
-    (model-back (fieldSize (2 * length es)) es m (record { head = h; odds = odds }) _ (t .model) (model-64 h odds held)
-    (frame-back (fieldSize (2 * length es) + fieldSize 24) es m (h .frame) odds _ (t .frame) (omega arith) rows)))
+    (model-back (fieldSize (2 * length es)) es m (record { head = plainHead h; odds = odds }) _ (plain-bounded m (t .model)) (model-64 h odds held)
+    (frame-back (fieldSize (2 * length es) + fieldSize 24) es (plainHead h .model) (h .frame) odds _ (t .frame) (omega arith) rows)))

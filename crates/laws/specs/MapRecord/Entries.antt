@@ -9,11 +9,11 @@ use lib.Dec.{eqb}
 use lib.ListN.{length, drop, replicate}
 use lib.Ieee.{Float}
 use borrow.Author.Tests.{eqb-true, eq-eqb}
-use Rattle.rules.specs.RefusalNumbers.{Refusal, Answer, given, refused, badBuffer}
+use Rattle.rules.specs.RefusalNumbers.{Refusal, Answer, given, refused, badCuts, badBuffer}
 use Rattle.rules.specs.RefusalNumbers.Entries.{headRefusal, usesOf, writing, Outcome}
 use Rattle.rules.specs.RefusalNumbers.Entries.{unlessRefused, readAnswer, readRecordEntry, writeAnswer, writeRecordEntry}
-use Rattle.rules.specs.TheGridAndItsBounds.{Head, Grid, cells, onePerCell}
-use Rattle.rules.specs.MapRecord.{Stored, recordBytes, recordOf, writable}
+use Rattle.rules.specs.TheGridAndItsBounds.{Head, Grid, cells, cutsInBounds, onePerCell}
+use Rattle.rules.specs.MapRecord.{Stored, recordBytes, recordOf, writable, withCuts}
 use Rattle.laws.specs.MapRecord.Words.{mapRead, SameReading}
 use Rattle.laws.specs.MapRecord.Each.{both}
 
@@ -22,64 +22,76 @@ use Rattle.laws.specs.MapRecord.Each.{both}
 abbrev pub RightSize : Stored → Grid → Type 0
 RightSize s g = (length (g .odds) ≡ cells (s .head .extents)) × (length (g .stamps) ≡ cells (s .head .extents))
 
-pub reads : (axes : ℕ) (bytes : List ℕ) (s : Stored) (g : Grid) → recordOf axes bytes ≡ given s → RightSize s g
-    → readRecordEntry axes bytes g ≡ mapRead s
+-- the cuts that were given fit the map that was read
+abbrev pub cutsFit : List ℕ → Stored → Bool
+cutsFit cuts s = cutsInBounds (s .head .extents) (withCuts cuts (s .head) .model)
+
+pub reads : (axes : ℕ) (cuts bytes : List ℕ) (s : Stored) (g : Grid) → recordOf axes bytes ≡ given s → cutsFit cuts s ≡ true → RightSize s g
+    → readRecordEntry axes cuts bytes g ≡ mapRead cuts s
 unfolding readRecordEntry onePerCell
-reads axes bytes s g e l = rw (e, eq-eqb _ _ (l .0), eq-eqb _ _ (l .1), l .1) refl
+reads axes cuts bytes s g e c l = rw (e, c, eq-eqb _ _ (l .0), eq-eqb _ _ (l .1), l .1) refl
 
 -- what reading leaves of a grid by whether it has the sizes
-abbrev sizedAnswer : Stored → Grid → Bool → Outcome Head Grid
-sizedAnswer s g b =
-    cond b (record { answer = given (s .head); lent = record { odds = s .odds; stamps = replicate (length (g .stamps)) 0 } })
+abbrev sizedAnswer : List ℕ → Stored → Grid → Bool → Outcome Head Grid
+sizedAnswer cuts s g b =
+    cond b (record { answer = given (withCuts cuts (s .head)); lent = record { odds = s .odds; stamps = replicate (length (g .stamps)) 0 } })
     (record { answer = refused badBuffer; lent = g })
 
+-- and by whether the cuts fit
+abbrev cutAnswer : List ℕ → Stored → Grid → Bool → Bool → Outcome Head Grid
+cutAnswer cuts s g c b = cond c (sizedAnswer cuts s g b) (record { answer = refused badCuts; lent = g })
+
 -- an answer that is a head came from a record, into a grid of its sizes
-pub record ReadFrom (axes : ℕ) (bytes : List ℕ) (g : Grid) (h : Head) : Type 0 where
+pub record ReadFrom (axes : ℕ) (cuts bytes : List ℕ) (g : Grid) (h : Head) : Type 0 where
   pub stored : Stored
   pub is : recordOf axes bytes ≡ given stored
-  pub head-is : stored .head ≡ h
+  pub head-is : withCuts cuts (stored .head) ≡ h
+  pub cuts-fit : cutsFit cuts stored ≡ true
   pub sizes : RightSize stored g
 
-pub read-from : (axes : ℕ) (bytes : List ℕ) (g : Grid) (h : Head) → readRecordEntry axes bytes g .answer ≡ given h → ReadFrom axes bytes g h
+pub read-from : (axes : ℕ) (cuts bytes : List ℕ) (g : Grid) (h : Head) → readRecordEntry axes cuts bytes g .answer ≡ given h → ReadFrom axes cuts bytes g h
 unfolding readRecordEntry onePerCell
-read-from axes bytes g h e = go (recordOf axes bytes) refl e
+read-from axes cuts bytes g h e = go (recordOf axes bytes) refl e
   where
-    sized : (s : Stored) (b : Bool) → recordOf axes bytes ≡ given s
+    sized : (s : Stored) (f b : Bool) → recordOf axes bytes ≡ given s → cutsFit cuts s ≡ f
         → eqb (length (g .odds)) (cells (s .head .extents)) && eqb (length (g .stamps)) (cells (s .head .extents)) ≡ b
-        → sizedAnswer s g b .answer ≡ given h → ReadFrom axes bytes g h
-    sized s true t b q =
+        → cutAnswer cuts s g f b .answer ≡ given h → ReadFrom axes cuts bytes g h
+    sized s true true t f b q =
         let c = both (eqb (length (g .odds)) (cells (s .head .extents))) (eqb (length (g .stamps)) (cells (s .head .extents))) b in
-        record { stored = s; is = t; head-is = cc; sizes = (eqb-true _ _ (c .0), eqb-true _ _ (c .1)) }
-    sized s false t b q = let z : _≡_ {A = ℕ} 0 1 = cc in absurd (omega arith)
+        record { stored = s; is = t; head-is = cc; cuts-fit = f; sizes = (eqb-true _ _ (c .0), eqb-true _ _ (c .1)) }
+    sized s true false t f b q = let z : _≡_ {A = ℕ} 0 1 = cc in absurd (omega arith)
+    sized s false b t f e q = let z : _≡_ {A = ℕ} 0 1 = cc in absurd (omega arith)
 
-    go : (a : Answer Stored) → recordOf axes bytes ≡ a → readAnswer g a .answer ≡ given h → ReadFrom axes bytes g h
-    go (given s) t q = sized s (eqb (length (g .odds)) (cells (s .head .extents)) && eqb (length (g .stamps)) (cells (s .head .extents))) t refl q
+    go : (a : Answer Stored) → recordOf axes bytes ≡ a → readAnswer cuts g a .answer ≡ given h → ReadFrom axes cuts bytes g h
+    go (given s) t q =
+        sized s (cutsFit cuts s) (eqb (length (g .odds)) (cells (s .head .extents)) && eqb (length (g .stamps)) (cells (s .head .extents))) t refl refl q
     go (refused r) t q = let z : _≡_ {A = ℕ} 0 1 = cc in absurd (omega arith)
 
 -- the answer goes by the sizes of what was lent
-answer-by-size : (a : Answer Stored) (g k : Grid) → length (g .odds) ≡ length (k .odds) → length (g .stamps) ≡ length (k .stamps)
-    → readAnswer g a .answer ≡ readAnswer k a .answer
-answer-by-size (refused r) g k p q = refl
-answer-by-size (given s) g k p q =
-    ap₂ (λ (m n : ℕ). sizedAnswer s g (onePerCell (s .head .extents) m && onePerCell (s .head .extents) n) .answer) p q
-    ∙ either (onePerCell (s .head .extents) (length (k .odds)) && onePerCell (s .head .extents) (length (k .stamps)))
+answer-by-size : (cuts : List ℕ) (a : Answer Stored) (g k : Grid) → length (g .odds) ≡ length (k .odds) → length (g .stamps) ≡ length (k .stamps)
+    → readAnswer cuts g a .answer ≡ readAnswer cuts k a .answer
+answer-by-size cuts (refused r) g k p q = refl
+answer-by-size cuts (given s) g k p q =
+    ap₂ (λ (m n : ℕ). cutAnswer cuts s g (cutsFit cuts s) (onePerCell (s .head .extents) m && onePerCell (s .head .extents) n) .answer) p q
+    ∙ either (cutsFit cuts s) (onePerCell (s .head .extents) (length (k .odds)) && onePerCell (s .head .extents) (length (k .stamps)))
   where
-    either : (b : Bool) → sizedAnswer s g b .answer ≡ sizedAnswer s k b .answer
-    either true = refl
-    either false = refl
+    either : (c b : Bool) → cutAnswer cuts s g c b .answer ≡ cutAnswer cuts s k c b .answer
+    either true true = refl
+    either true false = refl
+    either false b = refl
 
-pub same-reading : (axes : ℕ) (bytes : List ℕ) (g k : Grid) → SameReading axes bytes g k
-same-reading axes bytes g k = record { answers = λ p q. unfold readRecordEntry in answer-by-size (recordOf axes bytes) g k p q; maps = maps }
+pub same-reading : (axes : ℕ) (cuts bytes : List ℕ) (g k : Grid) → SameReading axes cuts bytes g k
+same-reading axes cuts bytes g k = record { answers = λ p q. unfold readRecordEntry in answer-by-size cuts (recordOf axes bytes) g k p q; maps = maps }
   where
-    maps : (h j : Head) → readRecordEntry axes bytes g .answer ≡ given h → readRecordEntry axes bytes k .answer ≡ given j
-        → readRecordEntry axes bytes g ≡ readRecordEntry axes bytes k
+    maps : (h j : Head) → readRecordEntry axes cuts bytes g .answer ≡ given h → readRecordEntry axes cuts bytes k .answer ≡ given j
+        → readRecordEntry axes cuts bytes g ≡ readRecordEntry axes cuts bytes k
     maps h j p q =
-        let x = read-from axes bytes g h p in
-        let y = read-from axes bytes k j q in
+        let x = read-from axes cuts bytes g h p in
+        let y = read-from axes cuts bytes k j q in
         let same : x .stored ≡ y .stored = cc (x .is, y .is) in
-        reads axes bytes (x .stored) g (x .is) (x .sizes)
-        ∙ ap mapRead same
-        ∙ sym (reads axes bytes (y .stored) k (y .is) (y .sizes))
+        reads axes cuts bytes (x .stored) g (x .is) (x .cuts-fit) (x .sizes)
+        ∙ ap (mapRead cuts) same
+        ∙ sym (reads axes cuts bytes (y .stored) k (y .is) (y .cuts-fit) (y .sizes))
 
 -- ---- writing
 -- an answer that is a count came from a head that passed, and the bytes stand first in what was lent

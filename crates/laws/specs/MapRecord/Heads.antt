@@ -15,7 +15,7 @@ use lib.Ieee.Bits.{is-true}
 use borrow.Author.Tests.{leb-true, le-leb, lt-ltb, le-ltb, eq-eqb}
 use Rattle.rules.specs.RefusalNumbers.Entries.{firstTooSmall, extentsRefusal, headRefusal, usesOf, writing}
 use Rattle.rules.specs.TheGridAndItsBounds.{Head, leastExtent, mostExtent, mostCells, cells}
-use Rattle.rules.specs.TheGridAndItsBounds.{allAtLeast, allAtMost, fitsCapacity, extentsInBounds, bounded, onePerCell}
+use Rattle.rules.specs.TheGridAndItsBounds.{allAtLeast, allAtMost, fitsCapacity, extentsInBounds, bounded, cutsInBounds, onePerCell}
 use Rattle.rules.specs.MarksAndFrames.{highestFrame, openFrame}
 use Rattle.rules.specs.MapRecord.{rowWidth, rowCount}
 use Rattle.laws.specs.Checks.{AxesInBounds, InBounds, passed, none-too-small}
@@ -70,6 +70,7 @@ all-least (e ∷ es) k h =
 pub record Tests (h : Head) (odds : ℕ) : Type 0 where
   pub extents : extentsInBounds (h .extents) ≡ true
   pub model : bounded (h .model) ≡ true
+  pub cuts : cutsInBounds (h .extents) (h .model) ≡ true
   pub frame : openFrame (h .frame) ≡ true
   pub count : odds ≡ cells (h .extents)
 
@@ -84,6 +85,7 @@ tests-of-writing h odds e =
       record {
         extents = rw (none-too-small (h .extents) (b .0), none-too-large (h .extents) (b .0), le-leb (cells (h .extents)) mostCells (b .1)) refl;
         model = is-true (bounded (h .model)) (p .model tt);
+        cuts = is-true (cutsInBounds (h .extents) (h .model)) (p .cuts tt);
         frame = rw (lt-ltb 0 (h .frame) (f .0), le-leb (h .frame) highestFrame (f .1)) refl;
         count = p .odds-count tt;
       },
@@ -95,4 +97,4 @@ pub writing-passes : (h : Head) (odds : ℕ) → Tests h odds → headRefusal (u
 unfolding headRefusal extentsRefusal extentsInBounds onePerCell
 writing-passes h odds t =
     let b = both (allAtLeast leastExtent (h .extents)) (fitsCapacity (h .extents)) (t .extents) in
-    rw (all-least (h .extents) 0 (b .0), b .1, t .model, eq-eqb odds (cells (h .extents)) (t .count), t .frame) refl
+    rw (all-least (h .extents) 0 (b .0), b .1, t .model, t .cuts, eq-eqb odds (cells (h .extents)) (t .count), t .frame) refl

@@ -11,18 +11,19 @@ use lib.Ieee.{Float, nan, fin, binary64, lt, le, eq, neg, toBits, ofBits, fits}
 use Rattle.rules.specs.Floats.{zeroF, halfF, oneF}
 use Rattle.rules.specs.RefusalNumbers.{given, refused, brokenRecord}
 use Rattle.rules.specs.RefusalNumbers.Entries.{headRefusal, usesOf, writing, firstTooSmall, extentsRefusal}
-use Rattle.rules.specs.TheGridAndItsBounds.{Model, Head, cells, allAtLeast, allAtMost, fitsCapacity, extentsInBounds, bounded, floor, onePerCell}
+use Rattle.rules.specs.TheGridAndItsBounds.{Model, plainModel, Head, cells, allAtLeast, allAtMost, fitsCapacity, extentsInBounds, bounded, floor, onePerCell}
+use Rattle.rules.specs.TheGridAndItsBounds.{Pair, pairBounded, allPairs, rising, cutsBelow, cutsInBounds, lastExtent, layerOf}
 use Rattle.rules.specs.MarksAndFrames.{openFrame}
 use Rattle.rules.specs.MapRecord.{littleEndian, fromLittleEndian, field, fieldHere, extentBytes, extentsIn, floatBytes, floatsIn, rowCount, rowsBytes}
 use Rattle.rules.specs.MapRecord.{recordBytes, rowsOffset, oddsInBounds, endIn, rowsIn, frameIn, modelFrom, recordOf}
-use Rattle.rules.specs.MapRecord.{rowsChecked, recordSize, roomFor, writable}
+use Rattle.rules.specs.MapRecord.{sameBits, samePair, equalPairs, pairsChecked, rowsChecked, recordSize, roomFor, writable}
 use Rattle.laws.specs.WholeSample.{allFit}
 use Rattle.laws.specs.MapRecord.Words.{Held}
 use Rattle.laws.specs.MapRecord.Numbers.{are-64}
 
 -- document 01's model, occupied 0.75, free -0.5, ceiling 4; in frame 1
 abbrev model : Model
-model = record { occupied = fin false 3 (negsuc 1); free = fin true 1 (negsuc 0); ceiling = fin false 1 (pos 2) }
+model = plainModel (record { occupied = fin false 3 (negsuc 1); free = fin true 1 (negsuc 0) }) (fin false 1 (pos 2))
 
 abbrev headOf : List ℕ → Head
 headOf es = record { extents = es; model = model; frame = 1 }
@@ -30,6 +31,23 @@ headOf es = record { extents = es; model = model; frame = 1 }
 -- the ceiling, -0.0, 0.5 and the floor
 abbrev four : List Float
 four = fin false 1 (pos 2) ∷ fin true 0 (pos 0) ∷ halfF ∷ fin true 1 (pos 2) ∷ []
+
+-- a map of 2 by 2 by 3 with cuts 1 and 2, whose middle band has this pair
+abbrev banded : Pair → Head
+banded p =
+    record {
+      extents = 2 ∷ 2 ∷ 3 ∷ [];
+      model = record {
+        lowest = model .lowest;
+        above = record { cut = 1; pair = p } ∷ record { cut = 2; pair = model .lowest } ∷ [];
+        ceiling = model .ceiling;
+        layer = 4;
+      };
+      frame = 1;
+    }
+
+abbrev otherPair : Pair
+otherPair = record { occupied = halfF; free = model .lowest .free }
 
 -- the record of a 2 by 2 map; its first odds number stands at bytes 44 to 51
 abbrev bytesOf : List Float → List ℕ
@@ -45,11 +63,11 @@ unfolding littleEndian fromLittleEndian field fieldHere extentBytes extentsIn fl
 openedRecord = 0
 
 openedReading : ℕ
-unfolding oddsInBounds endIn rowsIn frameIn modelFrom recordOf rowsOffset rowsChecked recordSize roomFor writable
+unfolding oddsInBounds endIn rowsIn frameIn modelFrom recordOf rowsOffset sameBits samePair equalPairs pairsChecked rowsChecked recordSize roomFor writable
 openedReading = 0
 
 openedHead : ℕ
-unfolding cells allAtLeast allAtMost fitsCapacity extentsInBounds bounded floor onePerCell openFrame headRefusal firstTooSmall extentsRefusal
+unfolding cells allAtLeast allAtMost fitsCapacity extentsInBounds pairBounded allPairs bounded rising cutsBelow cutsInBounds lastExtent layerOf floor onePerCell openFrame headRefusal firstTooSmall extentsRefusal
 openedHead = 0
 
 openedFloats : ℕ
@@ -62,6 +80,11 @@ pub record Needed : Type 0 where
   pub two-held : Held (headOf (2 ∷ 2 ∷ [])) four
   pub three-axes :
       (headRefusal (usesOf writing) (headOf (2 ∷ 2 ∷ 2 ∷ [])) 8 0 ≡ none) × (writable (headOf (2 ∷ 2 ∷ 2 ∷ [])) (four ++ four) 200 ≡ given 122)
+  -- Bands of equal pairs on 2 by 2 by 3, and one of another pair: the first is written and read with its cuts, the other cannot be written.
+  pub equal-bands :
+      (headRefusal (usesOf writing) (banded (model .lowest)) 12 0 ≡ none) × (writable (banded (model .lowest)) (four ++ four ++ four) 200 ≡ given 160)
+  pub bands-held : Held (banded (model .lowest)) (four ++ four ++ four)
+  pub pairs-needed : (headRefusal (usesOf writing) (banded otherPair) 12 0 ≡ none) × (writable (banded otherPair) (four ++ four ++ four) 200 ≡ refused (brokenRecord 9))
   -- No axis: the one odds number of the one cell is in no row, and is not read again.
   pub axis-fails : (headRefusal (usesOf writing) (headOf []) 1 0 ≡ none) × (writable (headOf []) (oneF ∷ []) 200 ≡ given 43)
   pub axis-needed : recordOf 0 (recordBytes (headOf []) (oneF ∷ [])) ≡ given (record { head = headOf []; odds = [] })
@@ -95,9 +118,21 @@ needed =
         occupied = refl;
         free = refl;
         ceiling = refl;
+        above = tt;
+        layer = refl;
         each-odds = are-64 four refl;
       };
       three-axes = (refl, refl);
+      equal-bands = (refl, refl);
+      bands-held = record {
+        occupied = refl;
+        free = refl;
+        ceiling = refl;
+        above = (refl, refl, (refl, refl, tt));
+        layer = refl;
+        each-odds = are-64 (four ++ four ++ four) refl;
+      };
+      pairs-needed = (refl, refl);
       axis-fails = (refl, refl);
       axis-needed = refl;
       head-needed = refl;

@@ -11,11 +11,11 @@ use lib.Ieee.{Float, nan, lt}
 use borrow.Author.Tests.{le-leb}
 use Rattle.rules.specs.RefusalNumbers.{Refusal, Answer, given, refused, andThen}
 use Rattle.rules.specs.Floats.{zeroF}
-use Rattle.rules.specs.TheGridAndItsBounds.{Model, Head, extentsInBounds, bounded}
+use Rattle.rules.specs.TheGridAndItsBounds.{Pair, Head, plainModel, extentsInBounds, pairBounded, allPairs, bounded, rising, cutsBelow, cutsInBounds}
 use Rattle.rules.specs.MarksAndFrames.{openFrame}
 use Rattle.rules.specs.MapRecord.{Stored, fromLittleEndian, field, fieldHere, fieldSize, extentsIn, floatsIn}
 use Rattle.rules.specs.MapRecord.{rowWidth, rowCount, recordBytes, rowsOffset, rowsIn, frameIn}
-use Rattle.rules.specs.MapRecord.{modelIn, modelFrom, recordOf, recordSize, roomFor, writable, soundOr}
+use Rattle.rules.specs.MapRecord.{modelIn, modelFrom, recordOf, equalPairs, pairsChecked, recordSize, roomFor, writable, soundOr}
 use Rattle.laws.specs.MapRecord.Words.{IsByte, AreBytes, NotNan, NoNan, Held, first, Sound}
 use Rattle.laws.specs.MapRecord.Each.{each-nil, each-cons, each-drop, both, all-three}
 use Rattle.laws.specs.MapRecord.Bytes.{little-endian-again}
@@ -111,7 +111,7 @@ module _ (axes : ℕ) (bytes : List ℕ) (s : Stored) (p : Parts axes bytes s) w
       let b = drop 3 (behindExtents axes bytes) in
       let at = floats-in-64 3 b in
       let three = floats-in-length 3 b in
-      record { occupied = at 0 (omega arith); free = at 1 (omega arith); ceiling = at 2 (omega arith); each-odds = p .rows .held }
+      record { occupied = at 0 (omega arith); free = at 1 (omega arith); ceiling = at 2 (omega arith); above = tt; layer = refl; each-odds = p .rows .held }
 
   sound-of : 0 < axes → Sound axes bytes (record { head = headIn axes bytes; odds = p .odds })
   sound-of some-axis =
@@ -123,10 +123,11 @@ module _ (axes : ℕ) (bytes : List ℕ) (s : Stored) (p : Parts axes bytes s) w
         passes = writing-passes (headIn axes bytes) (length (p .odds)) (record {
           extents = p .extents-sound;
           model = p .model-sound;
+          cuts = unfold cutsInBounds rising cutsBelow in refl;
           frame = p .frame-sound;
           count = p .rows .odds-length ∙ sym (rows-are-cells es (omega arith));
         });
-        written = λ room l. unfold writable roomFor in
+        written = λ room l. unfold writable pairsChecked equalPairs roomFor in
             rw (p .rows .checked (rowsOffset (length es)), le-leb (recordSize es) room (omega (arith, size-of))) (ap given (sym size-of));
         held = held-of;
         numbers = p .rows .numbers;
@@ -146,13 +147,13 @@ negative-not-nan : (x : Float) → lt x zeroF ≡ true → NotNan x
 unfolding lt
 negative-not-nan x h e = let z : _≡_ {A = Bool} false true = subst (λ (y : Float). lt y zeroF ≡ true) e h in true≢false (sym z)
 
-model-not-nan : (m : Model) → bounded m ≡ true → NoNan (modelFloats m)
-unfolding bounded
-model-not-nan m b =
-    let t = all-three (lt zeroF (m .occupied)) (lt (m .free) zeroF) (lt zeroF (m .ceiling)) (front _ _ _ _ _ _ _ b) in
-    each-cons NotNan nan (m .occupied) (m .free ∷ m .ceiling ∷ []) (positive-not-nan (m .occupied) (t .0))
-    (each-cons NotNan nan (m .free) (m .ceiling ∷ []) (negative-not-nan (m .free) (t .1))
-    (each-cons NotNan nan (m .ceiling) [] (positive-not-nan (m .ceiling) (t .2)) (each-nil NotNan nan)))
+model-not-nan : (p : Pair) (c : Float) → bounded (plainModel p c) ≡ true → NoNan (modelFloats (plainModel p c))
+unfolding bounded allPairs pairBounded
+model-not-nan p c b =
+    let t = all-three (lt zeroF (p .occupied)) (lt (p .free) zeroF) (lt zeroF c) (front _ _ _ _ _ _ _ b) in
+    each-cons NotNan nan (p .occupied) (p .free ∷ c ∷ []) (positive-not-nan (p .occupied) (t .0))
+    (each-cons NotNan nan (p .free) (c ∷ []) (negative-not-nan (p .free) (t .1))
+    (each-cons NotNan nan c [] (positive-not-nan c (t .2)) (each-nil NotNan nan)))
 
 record-again : (axes : ℕ) (bytes : List ℕ) (s : Stored) (p : Parts axes bytes s) → AreBytes bytes → recordBytes (headIn axes bytes) (p .odds) ≡ bytes
 unfolding recordBytes floatsIn
@@ -169,7 +170,7 @@ record-again axes bytes s p b =
     (ap₂ (λ (x y : List ℕ). field 1 x ++ y) (extents-again axes (drop 3 bytes) (each-drop IsByte 0 3 bytes b) (omega (arith, length-drop 3 bytes)))
     (ap₂ (λ (x y : List ℕ). field 2 x ++ y)
     (floats-again 3 (drop 3 rest₁) (each-drop IsByte 0 3 rest₁ b₁) (omega (arith, length-drop 3 rest₁))
-    (model-not-nan (headIn axes bytes .model) (p .model-sound)))
+    (model-not-nan (headIn axes bytes .model .lowest) (headIn axes bytes .model .ceiling) (p .model-sound)))
     (ap₂ (λ (x y : List ℕ). field 3 x ++ y)
     (little-endian-again 4 (drop 3 rest₂) (each-drop IsByte 0 3 rest₂ b₂) (omega (arith, length-drop 3 rest₂)))
     (p .rows .again b₃)

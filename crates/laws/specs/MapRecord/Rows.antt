@@ -10,9 +10,9 @@ use native.Mathlib.Omega.{arith}
 use lib.Dec.{eqb}
 use lib.ListN.{length, take, drop, length-append, length-drop, take-append-drop, drop-of-length-le}
 use lib.Seq.{take-at, drop-at, length-take-le}
-use lib.Ieee.{Float, nan, lt, eq, le}
+use lib.Ieee.{Float, nan, lt, eq, le, neg}
 use borrow.Author.Tests.{eqb-true}
-use Rattle.rules.specs.RefusalNumbers.{Refusal, given, refused, andThen, brokenRecord}
+use Rattle.rules.specs.RefusalNumbers.{Refusal, Answer, given, refused, andThen, brokenRecord}
 use Rattle.rules.specs.TheGridAndItsBounds.{Model, floor}
 use Rattle.rules.specs.MapRecord.{field, fieldHere, fieldSize, soundOr, floatBytes, floatsIn}
 use Rattle.rules.specs.MapRecord.{rowsBytes, fromFloorToCeiling, oddsInBounds, endIn, rowsIn, rowsChecked, littleEndian, fromLittleEndian}
@@ -193,3 +193,17 @@ rows-broken bytes m w (suc n) o rest r p e =
     step-broken bytes o rest 4 (8 * w) (oddsInBounds m row) row
     (λ xs. andThen (rowsIn m w n (o + size) (drop size rest)) (λ ys. given (xs ++ ys))) r p e
     (λ q f. rows-broken bytes m w n (o + size) (drop size rest) r q (then-refused (rowsIn m w n (o + size) (drop size rest)) (λ ys. row ++ ys) r f))
+
+-- ---- the bounds are the ceiling's
+-- two models of one ceiling, whatever their pairs and cuts
+odds-by-ceiling : (m k : Model) → m .ceiling ≡ k .ceiling → (xs : List Float) → oddsInBounds m xs ≡ oddsInBounds k xs
+unfolding oddsInBounds floor
+odds-by-ceiling m k e [] = refl
+odds-by-ceiling m k e (x ∷ xs) = ap₂ _&&_ (ap (λ (c : Float). le (neg c) x && le x c) e) (odds-by-ceiling m k e xs)
+
+pub rows-by-ceiling : (m k : Model) → m .ceiling ≡ k .ceiling → (width n o : ℕ) (odds : List Float) → rowsChecked m width n o odds ≡ rowsChecked k width n o odds
+unfolding rowsChecked
+rows-by-ceiling m k e width zero o odds = refl
+rows-by-ceiling m k e width (suc n) o odds =
+    ap₂ (λ (b : Bool) (rest : Answer (Unit {0})). andThen (soundOr o b tt) (λ (t : Unit {0}). rest)) (odds-by-ceiling m k e (take width odds))
+    (rows-by-ceiling m k e width n (o + fieldSize (8 * width)) (drop width odds))

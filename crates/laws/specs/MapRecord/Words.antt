@@ -2,7 +2,7 @@
 -- field begins, what is known of a record that was read and of a refusal. Definitions only.
 use Prim.Native.Nat.{ℕ, _+_, _≤_, _<_}
 use mathlib.Core.Bool.{true}
-use mathlib.Core.List.{List}
+use mathlib.Core.List.{List, [], _∷_}
 use mathlib.Core.Logic.{_⊎_}
 use mathlib.Core.Option.{none}
 use mathlib.Core.Path.{_≡_}
@@ -10,8 +10,8 @@ use lib.ListN.{length, getD, drop, replicate}
 use lib.Ieee.{Float, nan, binary64, fits}
 use Rattle.rules.specs.RefusalNumbers.{given, refused, brokenRecord}
 use Rattle.rules.specs.RefusalNumbers.Entries.{headRefusal, usesOf, writing, Outcome, readRecordEntry}
-use Rattle.rules.specs.TheGridAndItsBounds.{Head, Grid, cells}
-use Rattle.rules.specs.MapRecord.{Stored, fromLittleEndian, fieldSize, recordOf, anyRecordOf, recordSize, writable}
+use Rattle.rules.specs.TheGridAndItsBounds.{Band, Head, Grid, plainModel, cells, layerOf}
+use Rattle.rules.specs.MapRecord.{Stored, fromLittleEndian, fieldSize, recordOf, anyRecordOf, recordSize, writable, withCuts}
 
 -- a fact of each element of a list, by its place
 abbrev pub Each : {A : Type 0} → (A → Type 0) → A → List A → Type 0
@@ -37,12 +37,32 @@ NotNan x = ¬ (x ≡ nan)
 abbrev pub NoNan : List Float → Type 0
 NoNan xs = Each NotNan nan xs
 
--- the floats of a map are values of binary64, as those lent to an entry are
+-- the bands above the lowest
+abbrev pub HeldBands : List Band → Type 0
+HeldBands [] = Unit {0}
+HeldBands (b ∷ bs) = Is64 (b .pair .occupied) × Is64 (b .pair .free) × HeldBands bs
+
+-- the layer is that of the extents; where there are no cuts, the one that stands for none
+abbrev pub LaidOn : List ℕ → List Band → ℕ → Type 0
+LaidOn es [] layer = layer ≡ 1
+LaidOn es (b ∷ bs) layer = layer ≡ layerOf es
+
+-- the floats of a map are values of binary64, as those lent to an entry are, and its heights are those of its extents
 pub record Held (h : Head) (odds : List Float) : Type 0 where
-  pub occupied : Is64 (h .model .occupied)
-  pub free : Is64 (h .model .free)
+  pub occupied : Is64 (h .model .lowest .occupied)
+  pub free : Is64 (h .model .lowest .free)
   pub ceiling : Is64 (h .model .ceiling)
+  pub above : HeldBands (h .model .above)
+  pub layer : LaidOn (h .extents) (h .model .above) (h .model .layer)
   pub each-odds : Are64 odds
+
+-- the cuts of a model, and the head that edition 1 keeps: one pair and no cuts
+abbrev pub cutsOf : List Band → List ℕ
+cutsOf [] = []
+cutsOf (b ∷ bs) = b .cut ∷ cutsOf bs
+
+abbrev pub plainHead : Head → Head
+plainHead h = record { extents = h .extents; model = plainModel (h .model .lowest) (h .model .ceiling); frame = h .frame }
 
 -- A field begins at the first byte; and behind each field that stands whole, by the length that it bears, the next one begins.
 pub data FieldBegins (bytes : List ℕ) : ℕ → Type 0 where
@@ -77,17 +97,17 @@ pub record IsBroken (axes : ℕ) (bytes : List ℕ) : Type 0 where
   pub within : offset ≤ length bytes
 
 -- what reading leaves where it is not refused: the head as the answer, the odds, and stamps 0
-abbrev pub mapRead : Stored → Outcome Head Grid
-mapRead s = record { answer = given (s .head); lent = record { odds = s .odds; stamps = replicate (cells (s .head .extents)) 0 } }
+abbrev pub mapRead : List ℕ → Stored → Outcome Head Grid
+mapRead cuts s = record { answer = given (withCuts cuts (s .head)); lent = record { odds = s .odds; stamps = replicate (cells (s .head .extents)) 0 } }
 
 -- two lent grids, read into from the same bytes
-pub record SameReading (axes : ℕ) (bytes : List ℕ) (g k : Grid) : Type 0 where
+pub record SameReading (axes : ℕ) (cuts bytes : List ℕ) (g k : Grid) : Type 0 where
   -- grids of the same sizes get the same answer
   pub answers : length (g .odds) ≡ length (k .odds) → length (g .stamps) ≡ length (k .stamps)
-      → readRecordEntry axes bytes g .answer ≡ readRecordEntry axes bytes k .answer
+      → readRecordEntry axes cuts bytes g .answer ≡ readRecordEntry axes cuts bytes k .answer
   -- where a map is given into both, answers and grids are the same
-  pub maps : (h j : Head) → readRecordEntry axes bytes g .answer ≡ given h → readRecordEntry axes bytes k .answer ≡ given j
-      → readRecordEntry axes bytes g ≡ readRecordEntry axes bytes k
+  pub maps : (h j : Head) → readRecordEntry axes cuts bytes g .answer ≡ given h → readRecordEntry axes cuts bytes k .answer ≡ given j
+      → readRecordEntry axes cuts bytes g ≡ readRecordEntry axes cuts bytes k
 
 -- a reader that asks for no number of axes, beside one that asks for two or for three
 pub record AnyAxes (bytes : List ℕ) (s : Stored) : Type 0 where

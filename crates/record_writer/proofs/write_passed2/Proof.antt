@@ -11,7 +11,7 @@ use Rattle.types.specs.Models.{modelOf}
 use Rattle.types.specs.Points.{extents2}
 use Rattle.grid_map.specs.Heads.{head2}
 use Rattle.rows.proofs.Shapes.{shape2}
-use Rattle.record_writer.proofs.Fields.{given-room, not-written, written, all-there, small}
+use Rattle.record_writer.proofs.Fields.{alone, given-room, not-written, written, all-there, small}
 use Rattle.record_writer.proofs.write_passed2.Statement.{statement}
 use Rattle.record_writer.proofs.write_passed2.Tie as tie
 
@@ -57,7 +57,7 @@ returns c =
     let a = c .before .before .before .before .before .before .before .args in
     let e = a .map .extents in
     let why = sym (c .before .before .before .size-if-writable .ensures) ∙ ap countAnswer (c .before .r .given .1) in
-    not-written (head2 (a .map)) (now (a .odds)) (now (a .out)) (e .x) (e .y) (shape2 (extents2 e) e refl) _ why
+    not-written (head2 (a .map)) (modelOf (a .map .model)) refl (alone _) (now (a .odds)) (now (a .out)) (e .x) (e .y) (shape2 (extents2 e) e refl) _ why
 
 same-length : tie.Need-same-length
 same-length c = search needs
@@ -70,7 +70,7 @@ returns-2 c =
     let shape = shape2 (extents2 e) e refl in
     let given = sym (c .before .before .before .before .before .before .before .before .before .before .before .size-if-writable .ensures) ∙ ap countAnswer (c .before .before .before .before .before .before .before .before .before .size .given .1) in
     let there = all-there (extents2 e) (e .x) (e .y) (now (a .odds)) shape (p .odds-count tt) in
-    written (head2 (a .map)) (now (a .odds)) (now (a .out)) (e .x) (e .y) shape _ _ _ there given
+    written (head2 (a .map)) (modelOf (a .map .model)) refl (alone _) (now (a .odds)) (now (a .out)) (e .x) (e .y) shape _ _ _ there given
     (c .before .before .before .before .before .before .put-extents2 .ensures)
     (c .before .before .put-rest .ensures)
 

@@ -11,7 +11,7 @@ use Rattle.rules.specs.RefusalNumbers.{given, refused}
 use Rattle.rules.specs.RefusalNumbers.{dimensionTooSmall, capacityOverflow, badModel, badBuffer}
 use Rattle.rules.specs.RefusalNumbers.{outOfBounds, nonFiniteCoordinate, badBeams, badFrame, brokenRecord, noRoom, oddsNotANumber}
 use Rattle.rules.specs.Floats.{zeroF, halfF, oneF}
-use Rattle.rules.specs.TheGridAndItsBounds.{Model, Head, Grid}
+use Rattle.rules.specs.TheGridAndItsBounds.{Model, plainModel, Head, Grid}
 use Rattle.rules.specs.Coordinates.{flatIndex, cellContaining}
 use Rattle.rules.specs.MapRecord.{recordBytes, anyRecordOf}
 use Rattle.rules.specs.RefusalNumbers.Entries.{Outcome, newEntry}
@@ -31,7 +31,7 @@ abbrev newOf : List ℕ → Model → Outcome Head Grid
 newOf es m = newEntry es m (lent upTo3)
 
 abbrev reading : List ℕ → Outcome Head Grid
-reading bytes = readRecordEntry 2 bytes (lent (nan ∷ nan ∷ nan ∷ nan ∷ []))
+reading bytes = readRecordEntry 2 [] bytes (lent (nan ∷ nan ∷ nan ∷ nan ∷ []))
 
 abbrev brokenAt : ℕ → Outcome Head Grid
 brokenAt offset = record { answer = refused (brokenRecord offset); lent = lent (nan ∷ nan ∷ nan ∷ nan ∷ []) }
@@ -41,7 +41,7 @@ pub record AddedAnswers : Type 0 where
   pub new-is-fresh : newOf (2 ∷ 2 ∷ []) model ≡ record { answer = given (headOf 2 2 1); lent = fresh 2 2 }
   pub too-small-before-too-many : newOf (5000 ∷ 1 ∷ []) model .answer ≡ refused (dimensionTooSmall 1 1)
   pub too-many-cells : newOf (256 ∷ 256 ∷ 257 ∷ []) model .answer ≡ refused capacityOverflow
-  pub model-before-buffer : newOf (3 ∷ 3 ∷ []) (record { occupied = nan; free = minus 1 2; ceiling = plus 4 1 }) .answer ≡ refused badModel
+  pub model-before-buffer : newOf (3 ∷ 3 ∷ []) (plainModel (record { occupied = nan; free = minus 1 2 }) (plus 4 1)) .answer ≡ refused badModel
   pub buffer-too-short : newOf (3 ∷ 3 ∷ []) model ≡ record { answer = refused badBuffer; lent = lent upTo3 }
   -- frame 0 and one above the highest, before a bad list; a byte of 2; numbers left over
   pub frame-before-beams : updateScanEntry binary64 (headOf 2 2 0) [] (2 ∷ []) (fresh 2 2) .answer ≡ refused badFrame

@@ -9,12 +9,12 @@ use lib.Dec.{ltb}
 use lib.ListN.{length, getD, drop, replicate}
 use lib.Ieee.{Float, nan, isNan, Format}
 use Rattle.rules.specs.RefusalNumbers.{Refusal, Answer, given, refused, andThen}
-use Rattle.rules.specs.RefusalNumbers.{dimensionTooSmall, capacityOverflow, badModel, badBuffer, badBeams, badFrame, oddsNotANumber}
-use Rattle.rules.specs.TheGridAndItsBounds.{Model, Head, Grid, leastExtent, fitsCapacity, bounded, onePerCell, freshGrid, freshFrame}
+use Rattle.rules.specs.RefusalNumbers.{dimensionTooSmall, capacityOverflow, badModel, badCuts, badBuffer, badBeams, badFrame, oddsNotANumber}
+use Rattle.rules.specs.TheGridAndItsBounds.{Model, Head, Grid, leastExtent, fitsCapacity, bounded, cutsInBounds, onePerCell, freshGrid, freshFrame}
 use Rattle.rules.specs.Coordinates.{Sample, flatIndex, cellContaining, sample}
 use Rattle.rules.specs.MarksAndFrames.{Mark, markAt, withCell, setOdds, openedFrame, openedStamps, openFrame}
 use Rattle.rules.specs.OneBeam.{Beam, Integrated, integratedBeam, integrated, flatShape, beamsOf}
-use Rattle.rules.specs.MapRecord.{Stored, recordBytes, recordOf, writable}
+use Rattle.rules.specs.MapRecord.{Stored, recordBytes, recordOf, withCuts, writable}
 
 -- "1 DimensionTooSmall | an extent < 2 | first axis, extent"
 unfoldable pub firstTooSmall : ℕ → List ℕ → Option Refusal
@@ -41,14 +41,16 @@ pub record Uses : Type 0 where
   pub stamps : Bool
   pub frame : Bool
 
--- "Each entry that takes a head checks 1, 2, 3, 4 as far as it uses them, then 9, then 8, then points."
+-- "Each entry that takes a head checks 1, 2, 3, 4 as far as it uses them, then 9, then 8, then points." By change request 6 "15, bad cuts, comes after 3";
+-- the cuts are used where the model is.
 unfoldable pub headRefusal : Uses → Head → ℕ → ℕ → Option Refusal
 headRefusal u h odds stamps =
     orElse (extentsRefusal (h .extents))
     (orElse (unlessHolds (u .model) (bounded (h .model)) badModel)
+    (orElse (unlessHolds (u .model) (cutsInBounds (h .extents) (h .model)) badCuts)
     (orElse (unlessHolds (u .odds) (onePerCell (h .extents) odds) badBuffer)
     (orElse (unlessHolds (u .stamps) (onePerCell (h .extents) stamps) badBuffer)
-    (unlessHolds (u .frame) (openFrame (h .frame)) badFrame))))
+    (unlessHolds (u .frame) (openFrame (h .frame)) badFrame)))))
 
 -- "Extents are used by all; the model by `new`, marks, beams, `set_log_odds` and writing; odds by `new`, `reset`, marks, beams,
 -- `set_log_odds`, samples, cell reads and writing; stamps by `new`, `reset`, `begin_scan` (at any frame), marks and beams."
@@ -173,16 +175,20 @@ sampleLogOddsEntry f h point odds =
 unfoldable pub cellContainingEntry : Format → Head → List Float → Answer (List ℤ)
 cellContainingEntry f h point = answered (headRefusal (usesOf cell-containing) h 0 0) (cellContaining f (h .extents) point)
 
--- reading a map record of so many axes: "Reading tries the whole record (10) before the lent buffers (4) and gives stamps 0."
-abbrev pub readAnswer : Grid → Answer Stored → Outcome Head Grid
-readAnswer g (refused r) = record { answer = refused r; lent = g }
-readAnswer g (given s) =
-    cond (onePerCell (s .head .extents) (length (g .odds)) && onePerCell (s .head .extents) (length (g .stamps)))
-    (record { answer = given (s .head); lent = record { odds = s .odds; stamps = replicate (length (g .stamps)) 0 } })
-    (record { answer = refused badBuffer; lent = g })
+-- reading a map record of so many axes: "Reading tries the whole record (10) before the lent buffers (4) and gives stamps 0." By change request 6 "whoever
+-- reads an edition 1 record of three axes supplies the cuts", and 15 comes "in reading after 10 and before 4"; for two axes there are none.
+abbrev pub readAnswer : List ℕ → Grid → Answer Stored → Outcome Head Grid
+readAnswer cuts g (refused r) = record { answer = refused r; lent = g }
+readAnswer cuts g (given s) =
+    let h : Head = withCuts cuts (s .head) in
+    cond (cutsInBounds (h .extents) (h .model))
+    (cond (onePerCell (h .extents) (length (g .odds)) && onePerCell (h .extents) (length (g .stamps)))
+    (record { answer = given h; lent = record { odds = s .odds; stamps = replicate (length (g .stamps)) 0 } })
+    (record { answer = refused badBuffer; lent = g }))
+    (record { answer = refused badCuts; lent = g })
 
-unfoldable pub readRecordEntry : ℕ → List ℕ → Grid → Outcome Head Grid
-readRecordEntry axes bytes g = readAnswer g (recordOf axes bytes)
+unfoldable pub readRecordEntry : ℕ → List ℕ → List ℕ → Grid → Outcome Head Grid
+readRecordEntry axes cuts bytes g = readAnswer cuts g (recordOf axes bytes)
 
 -- writing one: the bytes written stand first in what was lent, the rest of it stays
 abbrev pub writeAnswer : Head → List Float → List ℕ → Answer ℕ → Outcome ℕ (List ℕ)

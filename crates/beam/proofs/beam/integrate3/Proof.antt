@@ -4,7 +4,7 @@ use mathlib.Core.Bool.{_&&_}
 use denote.Ref.{now}
 use lib.Ieee.{binary64}
 use borrow.Author.Needs.{needs}
-use Rattle.types.specs.Models.{modelOf}
+use Rattle.types.specs.Models.{bandsOf}
 use Rattle.types.specs.Points.{extents3, point3}
 use Rattle.rules.specs.Floats.{allFinite}
 use Rattle.rules.specs.OneBeam.{clip, integratedBeam, beamMarks}
@@ -37,7 +37,7 @@ returns c =
     let origin = point3 (a .beam .origin) in
     let endpoint = point3 (a .beam .endpoint) in
     rw (not-finite (allFinite origin && allFinite endpoint) (clip binary64 (extents3 (a .map .extents)) origin endpoint) tried)
-    (not-integrated (modelOf (a .map .model)) (a .map .frame .0) (now (a .odds)) (now (a .stamps)) Ray)
+    (not-integrated (bandsOf (a .map .extents) (a .map .bands)) (a .map .frame .0) (now (a .odds)) (now (a .stamps)) Ray)
 
 same-length : tie.Need-same-length
 same-length c = search needs

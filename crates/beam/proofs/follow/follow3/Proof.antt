@@ -63,16 +63,16 @@ returns-3 c = c .before .before .before .before .before .before .before .loop .i
 place-within3-requires : tie.Need-place-within3-requires Inv-loop μ-loop
 place-within3-requires c κs = (c .before .before .before .before .before .before .before .before .before .before .before .before .before .before .before .before .before .pre .0 .extents, (c .before .before .before .before .if1 .left, (c .before .before .if2 .left, c .if3 .left)))
 
-mark-place-requires : tie.Need-mark-place-requires Inv-loop μ-loop
-mark-place-requires c κs =
+mark-place3-requires : tie.Need-mark-place3-requires Inv-loop μ-loop
+mark-place3-requires c κs =
     let lt = place-lt _ _ _ refl (c .before .before .place-within3 .ensures) in
     let p = c .before .before .before .before .before .before .before .before .before .before .loop .inv .begun .walked false .ready in
-    (rw (p .odds-count) lt, (rw (p .stamps-count) lt, p .frame))
+    (p, rw (p .odds-count) lt)
 
 add-count : tie.Need-add-count Inv-loop μ-loop
 add-count c =
     let before = c .before .before .before .before .before .before .before .before .before .before .before .before .before .before .before .loop .inv .begun .walked false .used in
-    let step = c .before .before .before .before .mark-place .ensures .used in
+    let step = c .before .before .before .before .mark-place3 .ensures .used in
     let most = room-most (c .before .before .before .before .before .before .before .before .before .before .before .before .before .before .before .before .before .before .before .before .before .before .before .before .before .args .map .frame .0) (now (c .before .before .before .before .before .before .before .before .before .before .before .before .before .before .before .before .before .before .before .before .before .before .before .before .before .args .stamps)) in
     let counted = c .before .before .before .before .before .before .before .before .before .before .before .before .before .before .before .before .before .before .before .before .before .before .before .before .before .pre .0 .stamps-count in
     let few = c .before .before .before .before .before .before .before .before .before .before .before .before .before .before .before .before .before .before .before .before .before .before .before .before .before .pre .0 .extents .1 in
@@ -109,7 +109,7 @@ loop-less c =
 loop-again : tie.Need-loop-again Inv-loop μ-loop
 unfolding axesAfter
 loop-again c =
-    follows _ _ _ _ _ (line3 (c .before .before .before .before .before .before .before .before .before .before .before .before .before .before .before .before .before .before .before .loop .rest)) _ _ _ _ (c .before .before .before .before .before .before .before .before .before .before .before .before .before .before .before .before .before .before .before .loop .inv) _ _ _ (c .before .before .before .before .before .before .before .before .mark-place .result) _ _
+    follows _ _ _ _ _ (line3 (c .before .before .before .before .before .before .before .before .before .before .before .before .before .before .before .before .before .before .before .loop .rest)) _ _ _ _ (c .before .before .before .before .before .before .before .before .before .before .before .before .before .before .before .before .before .before .before .loop .inv) _ _ _ (c .before .before .before .before .before .before .before .before .mark-place3 .result) _ _
     (c .before .before .before .before .before .before .before .before .before .before .before .before .before .before .before .before .before .before .loop-test .taken) (
       on-a-map _ _ (c .before .before .before .before .before .before .before .before .before .before .before .before .before .before .before .before .if1 .left) (c .before .before .before .before .before .before .before .before .before .before .before .before .before .before .before .before .before .before .before .before .before .before .before .before .before .before .before .before .before .pre .0 .extents .0 .1),
       (
@@ -120,7 +120,7 @@ loop-again c =
         ),
       ),
     )
-    (c .before .before .before .before .before .before .before .before .before .before .before .place-within3 .ensures) (c .before .before .before .before .before .before .before .before .mark-place .ensures) (c .moved .ensures)
+    (c .before .before .before .before .before .before .before .before .before .before .before .place-within3 .ensures) (c .before .before .before .before .before .before .before .before .mark-place3 .ensures) (c .moved .ensures)
     (c .before .before .before .cell-after .ensures, (c .before .before .cell-after2 .ensures, (c .before .cell-after3 .ensures, tt)))
 
 same-length-7 : tie.Need-same-length-7 Inv-loop μ-loop
@@ -152,7 +152,7 @@ follow3-spec =
     same-length-6
     returns-3
     place-within3-requires
-    mark-place-requires
+    mark-place3-requires
     add-count
     cell-after-requires
     cell-after-requires-2

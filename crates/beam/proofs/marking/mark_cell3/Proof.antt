@@ -16,12 +16,12 @@ enum-told c = search needs
 enum-known-i : tie.Need-enum-known-i
 enum-known-i c = search needs
 
-mark-place-requires : tie.Need-mark-place-requires
-mark-place-requires c κs =
+mark-place3-requires : tie.Need-mark-place3-requires
+mark-place3-requires c κs =
     let found = sym (c .before .before .before .before .before .translate-to-index3 .ensures) ∙ ap placeOf (c .before .before .before .i .given .1) in
     let lt = place-lt _ _ _ refl found in
     let p = c .before .before .before .before .before .before .before .before .pre in
-    (rw (p .odds-count) lt, (rw (p .stamps-count) lt, p .frame))
+    (p, rw (p .odds-count) lt)
 
 returns : tie.Need-returns
 returns c = rw (sym (c .before .before .translate-to-index3 .ensures) ∙ ap placeOf (c .enum-told .given .1)) (none-applied _ _ _ _)
@@ -33,7 +33,7 @@ same-length-2 : tie.Need-same-length-2
 same-length-2 c = search needs
 
 returns-2 : tie.Need-returns-2
-returns-2 c = rw (sym (c .before .before .before .before .before .before .before .before .before .before .translate-to-index3 .ensures) ∙ ap placeOf (c .before .before .before .before .before .before .before .before .i .given .1)) (c .before .before .before .before .mark-place .ensures)
+returns-2 c = rw (sym (c .before .before .before .before .before .before .before .before .before .before .translate-to-index3 .ensures) ∙ ap placeOf (c .before .before .before .before .before .before .before .before .i .given .1)) (c .before .before .before .before .mark-place3 .ensures)
 
 pub mark-cell3-spec : {M : Type 1} → statement M
 mark-cell3-spec =
@@ -42,7 +42,7 @@ mark-cell3-spec =
     translate-to-index3-requires
     enum-told
     enum-known-i
-    mark-place-requires
+    mark-place3-requires
     returns
     same-length
     same-length-2

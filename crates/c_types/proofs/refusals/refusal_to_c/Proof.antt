@@ -95,6 +95,12 @@ enum-told-8 c = search needs
 bare-requires-8 : tie.Need-bare-requires-8
 bare-requires-8 c κs = search needs
 
+enum-told-9 : tie.Need-enum-told-9
+enum-told-9 c = search needs
+
+bare-requires-9 : tie.Need-bare-requires-9
+bare-requires-9 c κs = search needs
+
 returns : tie.Need-returns
 returns c = simp (c .on-grid .ensures, c .before .before .refusal .given .1)
 
@@ -142,6 +148,9 @@ returns-14 c = simp (c .bare7 .ensures, c .before .enum-told7 .given .1)
 returns-15 : tie.Need-returns-15
 returns-15 c = simp (c .bare8 .ensures, c .before .enum-told8 .given .1)
 
+returns-16 : tie.Need-returns-16
+returns-16 c = simp (c .bare9 .ensures, c .before .enum-told9 .given .1)
+
 pub refusal-to-c-spec : {M : Type 1} → statement M
 refusal-to-c-spec =
     tie.close
@@ -176,6 +185,8 @@ refusal-to-c-spec =
     bare-requires-7
     enum-told-8
     bare-requires-8
+    enum-told-9
+    bare-requires-9
     returns
     returns-2
     returns-3
@@ -190,4 +201,5 @@ refusal-to-c-spec =
     returns-12
     returns-13
     returns-14
-    returns-15)
+    returns-15
+    returns-16)

@@ -99,7 +99,7 @@ Ends h ys r h′ zs = opened3 r h′ zs ≡ leftIn (head3 h) (beginScanEntry (he
 
 -- the head with the frame of another
 abbrev framed : GridMap3 → GridMap3 → GridMap3
-framed h m = record { extents = h .extents; model = h .model; frame = m .frame }
+framed h m = record { extents = h .extents; bands = h .bands; frame = m .frame }
 
 abbrev tyAt : ℕ → Ty
 tyAt k = typeAt mirs.locals k

@@ -1,12 +1,12 @@
--- The model's, and the floor its negative ceiling.
+-- A model of one pair has no cuts; the floor is its negative ceiling.
 use mathlib.Core.Path.{refl}
-use Rattle.rules.specs.TheGridAndItsBounds.{floor}
+use Rattle.rules.specs.TheGridAndItsBounds.{floor, pairAt}
 use Rattle.rules.specs.MarksAndFrames.{stepsAt}
 use Rattle.marks.proofs.marks.steps_at.Statement.{statement}
 use Rattle.marks.proofs.marks.steps_at.Tie as tie
 
 returns : tie.Need-returns
-unfolding stepsAt floor
+unfolding stepsAt pairAt floor
 returns c = refl
 
 pub steps-at-spec : {M : Type 1} → statement M

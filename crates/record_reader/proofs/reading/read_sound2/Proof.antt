@@ -1,5 +1,6 @@
 -- The record is sound; the lists decide, and then they are filled.
 use Prim.Native.Nat.{_*_}
+use mathlib.Core.List.{[]}
 use mathlib.Core.Path.{sym}
 use native.Mathlib.Nat.{mul-comm}
 use native.Mathlib.Omega.{arith}
@@ -8,7 +9,7 @@ use borrow.Author.Needs.{needs}
 use Rattle.types.specs.Models.{modelOf}
 use Rattle.record_reader.proofs.Sound.{sound}
 use Rattle.rows.proofs.Shapes.{shape2, few}
-use Rattle.record_reader.proofs.Taken.{head-fits, rows-fit, odds-wrong, stamps-wrong, all-read}
+use Rattle.record_reader.proofs.Taken.{head-fits, rows-fit, no-cuts, odds-wrong, stamps-wrong, all-read}
 use Rattle.record_reader.proofs.reading.read_sound2.Statement.{statement}
 use Rattle.record_reader.proofs.reading.read_sound2.Tie as tie
 
@@ -34,7 +35,7 @@ returns c =
     let e = c .before .extents-at2 .result in
     let s = sound 2 b (c .before .before .before .before .before .pre) in
     let shape = shape2 _ e (c .before .extents-at2 .ensures) in
-    odds-wrong 2 b s (e .x) (e .y) shape (now (a .odds)) (now (a .stamps)) (c .if1 .taken)
+    odds-wrong 2 b s (e .x) (e .y) shape [] (now (a .odds)) (now (a .stamps)) (no-cuts 2 b) (c .if1 .taken)
 
 mul-if2 : tie.Need-mul-if2
 mul-if2 c = search needs
@@ -46,7 +47,7 @@ returns-2 c =
     let e = c .before .before .extents-at2 .result in
     let s = sound 2 b (c .before .before .before .before .before .before .pre) in
     let shape = shape2 _ e (c .before .before .extents-at2 .ensures) in
-    stamps-wrong 2 b s (e .x) (e .y) shape (now (a .odds)) (now (a .stamps)) (c .before .if1 .left) (c .if2 .taken)
+    stamps-wrong 2 b s (e .x) (e .y) shape [] (now (a .odds)) (now (a .stamps)) (no-cuts 2 b) (c .before .if1 .left) (c .if2 .taken)
 
 read-rows-requires : tie.Need-read-rows-requires
 read-rows-requires c κs =
@@ -87,7 +88,7 @@ returns-3 c =
     let e = c .before .before .before .before .before .before .before .before .before .before .before .before .extents-at2 .result in
     let s = sound 2 b (c .before .before .before .before .before .before .before .before .before .before .before .before .before .before .before .before .pre) in
     let shape = shape2 _ e (c .before .before .before .before .before .before .before .before .before .before .before .before .extents-at2 .ensures) in
-    all-read 2 b s (e .x) (e .y) shape (now (a .odds)) (now (a .stamps)) _ (modelOf (c .before .model-at .result)) _ _ _
+    all-read 2 b s (e .x) (e .y) shape [] (now (a .odds)) (now (a .stamps)) (no-cuts 2 b) _ (modelOf (c .before .model-at .result)) _ _ _
     (c .before .before .before .before .before .before .before .before .before .before .before .if1 .left) (c .before .before .before .before .before .before .before .before .before .before .if2 .left)
     (c .before .before .before .before .before .before .before .before .before .before .before .before .extents-at2 .ensures)
     (c .before .model-at .ensures) (c .u32-at .ensures)

@@ -1,0 +1,39 @@
+-- The cell's band has the steps of the cell, so its model marks the cell as the bands do.
+use mathlib.Core.Path.{sym, _∙_, subst}
+use Prim.Native.Nat.{ℕ, _<_}
+use borrow.Author.Needs.{needs}
+use denote.Ref.{now}
+use Rattle.types.specs.Models.{bandsOf}
+use Rattle.beam.proofs.Applying.{one-alike}
+use Rattle.beam.proofs.marking.mark_place3.Statement.{statement}
+use Rattle.beam.proofs.marking.mark_place3.Tie as tie
+
+model-at-requires : tie.Need-model-at-requires
+model-at-requires c κs = let p = c .before .before .pre .0 in (p .extents, p .cuts)
+
+mark-place-requires : tie.Need-mark-place-requires
+mark-place-requires c κs =
+    let p = c .before .before .before .before .before .pre in
+    (p .1, (subst (λ (n : ℕ). c .before .before .before .before .before .args .at < n) (p .0 .odds-count ∙ sym (p .0 .stamps-count)) (p .1), p .0 .frame))
+
+same-length : tie.Need-same-length
+same-length c = search needs
+
+same-length-2 : tie.Need-same-length-2
+same-length-2 c = search needs
+
+returns : tie.Need-returns
+returns c =
+    let a = c .before .before .before .before .before .before .before .before .before .before .args in
+    one-alike _ (bandsOf (a .map .extents) (a .map .bands)) (a .map .frame .0) (a .at) (a .occupied) (now (a .odds)) _ (now (a .stamps)) _ _
+    (c .before .before .before .before .before .before .before .model-at .ensures) (c .before .before .before .before .mark-place .ensures)
+
+pub mark-place3-spec : {M : Type 1} → statement M
+mark-place3-spec =
+    tie.close
+    (tie.spec
+    model-at-requires
+    mark-place-requires
+    same-length
+    same-length-2
+    returns)

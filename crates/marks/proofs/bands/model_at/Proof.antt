@@ -1,0 +1,65 @@
+-- By the place, band after band; the products are those of extents and cuts that have passed.
+use Prim.Native.Nat.{_*_}
+use mathlib.Core.Path.{ap, _∙_}
+use mir.Facts.{fits-le, fits-lit}
+use borrow.Author.Needs.{needs}
+use Rattle.rules.specs.TheGridAndItsBounds.{Model}
+use Rattle.rules.specs.MarksAndFrames.{stepsAt}
+use Rattle.marks.proofs.Banding.{layer-most, cuts-most, steps-low, steps-middle, steps-high}
+use Rattle.marks.proofs.bands.model_at.Statement.{statement}
+use Rattle.marks.proofs.bands.model_at.Tie as tie
+
+mul-layer : tie.Need-mul-layer
+mul-layer c = let a = c .before .before .before .before .before .args in fits-le (layer-most (a .extents) (a .bands) (c .before .before .before .before .before .pre .0)) (fits-lit {n = 4096 * 4096} tt)
+
+mul-if1 : tie.Need-mul-if1
+mul-if1 c =
+    let a = c .before .before .before .before .before .before .args in
+    let p = c .before .before .before .before .before .before .pre in
+    fits-le (cuts-most (a .extents) (a .bands) (p .0) (p .1) .0) (fits-lit {n = 4096 * (4096 * 4096)} tt)
+
+with-requires : tie.Need-with-requires
+with-requires c κs = search needs
+
+returns : tie.Need-returns
+returns c =
+    let a = c .before .before .before .before .before .before .before .before .args in
+    ap (λ (m : Model). stepsAt m (a .place)) (c .with .ensures) ∙ steps-low (a .extents) (a .bands) (c .before .before .before .before .before .before .before .before .pre .0) (a .place) (c .before .if1 .taken)
+
+mul-if2 : tie.Need-mul-if2
+mul-if2 c =
+    let a = c .before .before .before .before .before .before .before .before .args in
+    let p = c .before .before .before .before .before .before .before .before .pre in
+    fits-le (cuts-most (a .extents) (a .bands) (p .0) (p .1) .1) (fits-lit {n = 4096 * (4096 * 4096)} tt)
+
+with-requires-2 : tie.Need-with-requires-2
+with-requires-2 c κs = search needs
+
+returns-2 : tie.Need-returns-2
+returns-2 c =
+    let a = c .before .before .before .before .before .before .before .before .before .before .args in
+    ap (λ (m : Model). stepsAt m (a .place)) (c .with2 .ensures)
+    ∙ steps-middle (a .extents) (a .bands) (c .before .before .before .before .before .before .before .before .before .before .pre .0) (a .place) (c .before .before .before .if1 .left) (c .before .if2 .taken)
+
+with-requires-3 : tie.Need-with-requires-3
+with-requires-3 c κs = search needs
+
+returns-3 : tie.Need-returns-3
+returns-3 c =
+    let a = c .before .before .before .before .before .before .before .before .before .before .args in
+    ap (λ (m : Model). stepsAt m (a .place)) (c .with3 .ensures)
+    ∙ steps-high (a .extents) (a .bands) (c .before .before .before .before .before .before .before .before .before .before .pre .0) (a .place) (c .before .before .before .if1 .left) (c .before .if2 .left)
+
+pub model-at-spec : {M : Type 1} → statement M
+model-at-spec =
+    tie.close
+    (tie.spec
+    mul-layer
+    mul-if1
+    with-requires
+    returns
+    mul-if2
+    with-requires-2
+    returns-2
+    with-requires-3
+    returns-3)
