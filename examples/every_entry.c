@@ -282,6 +282,27 @@ static void lent_forms_of_three_axes(void)
     printf("update_beams number %u, count %lu [0, 0]\n", c.refusal.number, c.count);
 }
 
+static void vertical_beams(void)
+{
+    enum { CELLS = 5 * 4 * 3 };
+    tembuzar_map3 map = tembuzar_new3((tembuzar_extents3){5, 4, 3}, bands, odds, CELLS, stamps, CELLS).map;
+    tembuzar_vertical_beam beam = {.x = 2, .y = 1, .bottom = 0, .top = 2, .hit = true};
+    tembuzar_count_answer c = tembuzar_update_vertical3(map, odds, CELLS, stamps, CELLS, beam);
+    printf("update_vert. number %u, count %lu, odds %g %g %g, stamps %u %u %u [0, 3, -0.5 -0.5 0.75, 2 2 3]\n",
+           c.refusal.number, c.count, odds[7], odds[27], odds[47], stamps[7], stamps[27], stamps[47]);
+    beam = (tembuzar_vertical_beam){.x = 4, .y = 3, .bottom = 1, .top = 3, .hit = true};
+    c = tembuzar_update_vertical3(map, odds, CELLS, stamps, CELLS, beam);
+    printf("update_vert. number %u, count %lu, odds %g %g %g, stamp %u [0, 2, 0 -0.5 -0.5, 2]\n",
+           c.refusal.number, c.count, odds[19], odds[39], odds[59], stamps[59]);
+    beam.top = 4;
+    c = tembuzar_update_vertical3(map, odds, CELLS, stamps, CELLS, beam);
+    printf("update_vert. number %u, values %u, count %lu, odds %g [18, 0, 0, -0.5]\n",
+           c.refusal.number, c.refusal.values, c.count, odds[59]);
+    map.frame = 0;
+    c = tembuzar_update_vertical3(map, odds, CELLS, stamps, CELLS, beam);
+    printf("update_vert. number %u [9]\n", c.refusal.number);
+}
+
 static void sweep_file_of_three_axes(void)
 {
     enum { CELLS = 5 * 4 * 3, BYTES = 9 + 2 * 52 + 7 };
@@ -338,5 +359,6 @@ int main(void)
     three_bands();
     lent_forms_of_three_axes();
     sweep_file_of_three_axes();
+    vertical_beams();
     return 0;
 }

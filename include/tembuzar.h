@@ -80,7 +80,8 @@ enum tembuzar_number {
     TEMBUZAR_SWEEP = 12,                /* a sweep file is broken. Gives bytes: the offset of the field */
     TEMBUZAR_ODDS = 13,                 /* the odds are not a number */
     TEMBUZAR_LISTS = 14,                /* points, samples and marks are not for the same number of points */
-    TEMBUZAR_CUTS = 15                  /* the cuts are not 0 < first < second < extents.z: see tembuzar_bands */
+    TEMBUZAR_CUTS = 15,                 /* the cuts are not 0 < first < second < extents.z: see tembuzar_bands */
+    TEMBUZAR_PROFILE = 18               /* a vertical beam is outside its profile: see tembuzar_update_vertical3 */
 };
 
 /* Why a call was refused. A value that the number does not give is 0. */
@@ -206,6 +207,15 @@ typedef struct tembuzar_beam3 {
     tembuzar_point3 endpoint;
     bool hit;
 } tembuzar_beam3;
+
+/* A beam straight up a column of cells, in whole numbers: the column, the height of the cell it started in, that of the
+ * cell it stopped in, and whether that was a return. A top of the map's own extents.z means that the beam ran out. */
+typedef struct tembuzar_vertical_beam {
+    uint64_t x, y;
+    uint64_t bottom;
+    uint64_t top;
+    bool hit;
+} tembuzar_vertical_beam;
 
 typedef struct tembuzar_vector3 {
     double x, y, z;
@@ -424,6 +434,16 @@ tembuzar_count_answer tembuzar_update_beams3(tembuzar_map3 map,
 tembuzar_count_answer tembuzar_update_ray3(tembuzar_map3 map,
                                            double *odds, size_t odds_count, uint32_t *stamps, size_t stamps_count,
                                            tembuzar_beam3 beam);
+
+/* One vertical beam, of an instrument that looks straight up and sends whole numbers; three axes only. The cells
+ * (x, y, bottom) to (x, y, top) are marked free, but the last occupied if the beam is a hit. Where top is extents.z, the beam
+ * ran out: the cells up to the highest are all marked free, hit or not. It does what tembuzar_update_ray3 does with the beam
+ * from (x + 0.5, y + 0.5, bottom + 0.5) to (x + 0.5, y + 0.5, top + 0.5), or to z = extents.z where it ran out: the same odds,
+ * stamps and count. Refuses with 1, 2, 3, 4, 9, 18. 18: not x < extents.x, y < extents.y, bottom < extents.z and
+ * bottom <= top <= extents.z. */
+tembuzar_count_answer tembuzar_update_vertical3(tembuzar_map3 map,
+                                                double *odds, size_t odds_count, uint32_t *stamps, size_t stamps_count,
+                                                tembuzar_vertical_beam beam);
 
 tembuzar_mark_answer tembuzar_mark_free3(tembuzar_map3 map,
                                          double *odds, size_t odds_count, uint32_t *stamps, size_t stamps_count,

@@ -8,7 +8,7 @@ use oracle::rust::{HIGHEST_FRAME, MapState};
 use crate::answers::{self, Verdict, hex};
 use crate::draw;
 use crate::face::Face;
-use crate::ffi::{Beam, Cell, Map, MapAnswer, Point, Refusal};
+use crate::ffi::{Beam, Cell, Map, MapAnswer, Point, Refusal, VerticalBeam};
 use crate::pair::head_of;
 use crate::tally::Tally;
 
@@ -196,6 +196,14 @@ fn sweeps<L: Face<N>, const N: usize>(input: &mut Input<N>, tally: &mut Tally) -
         let beams = [Beam { origin: nowhere, endpoint: nowhere, hit: true }];
         answers::count(L::update_beams(i.head, &mut i.odds, &mut i.stamps, &beams), Err(want))
     })?;
+    if N == 3 {
+        refused(input, tally, ("update_vertical", &marks), |i, want| {
+            // Outside the profile: 18 comes last.
+            let beam = VerticalBeam { x: 0, y: 0, bottom: 1, top: 0, hit: true };
+            let answer = L::update_vertical(i.head, &mut i.odds, &mut i.stamps, beam);
+            answers::count(answer.expect("the header has it on three axes"), Err(want))
+        })?;
+    }
     refused(input, tally, ("set_log_odds", &[Model, Odds]), |i, want| {
         answers::refusal(L::set_log_odds(i.head, &mut i.odds, off, 1.0), Err(want))
     })?;

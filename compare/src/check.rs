@@ -29,7 +29,7 @@ pub struct Work<'a, const N: usize> {
 }
 
 /// Up to this many cells, the whole map is compared after each ray; above, after a row of rays.
-const COMPARED_EACH_TIME: usize = 300;
+pub const COMPARED_EACH_TIME: usize = 300;
 
 fn c_beam<const N: usize>(beam: &Beam<f64, N>) -> ffi::Beam<N> {
     ffi::Beam { origin: Point(beam.origin), endpoint: Point(beam.endpoint), hit: beam.hit }

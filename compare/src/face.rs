@@ -14,6 +14,15 @@ pub trait Face<const N: usize> {
     fn update_scan(map: Map<N>, odds: &mut [f64], stamps: &mut [u32], numbers: &[f64], hits: &[u8]) -> CountAnswer;
     fn update_beams(map: Map<N>, odds: &mut [f64], stamps: &mut [u32], beams: &[Beam<N>]) -> CountAnswer;
     fn update_ray(map: Map<N>, odds: &mut [f64], stamps: &mut [u32], beam: Beam<N>) -> CountAnswer;
+    /// Nothing where the header has no such function: it is for three axes alone.
+    fn update_vertical(
+        _map: Map<N>,
+        _odds: &mut [f64],
+        _stamps: &mut [u32],
+        _beam: VerticalBeam,
+    ) -> Option<CountAnswer> {
+        None
+    }
     fn mark_free(map: Map<N>, odds: &mut [f64], stamps: &mut [u32], cell: Cell<N>) -> MarkAnswer;
     fn mark_occupied(map: Map<N>, odds: &mut [f64], stamps: &mut [u32], cell: Cell<N>) -> MarkAnswer;
     fn set_log_odds(map: Map<N>, odds: &mut [f64], cell: Cell<N>, value: f64) -> Refusal;
@@ -35,8 +44,16 @@ macro_rules! face {
     ($n:literal, $head:ty, $steps:ty, $new:ident, $reset:ident, $begin_scan:ident, $open_scan:ident, $update_scan:ident, $update_beams:ident,
      $update_ray:ident, $mark_free:ident, $mark_occupied:ident, $set_log_odds:ident, $set_log_odds_checked:ident,
      $log_odds_at:ident, $sample_log_odds:ident, $sample_all_log_odds:ident, $cell_containing:ident, $plotter:ident,
-     $step:ident) => {
+     $step:ident $(, vertical $update_vertical:ident)?) => {
         unsafe extern "C" {
+            $(fn $update_vertical(
+                m: $head,
+                o: *mut f64,
+                oc: usize,
+                s: *mut u32,
+                sc: usize,
+                b: VerticalBeam,
+            ) -> CountAnswer;)?
             fn $new(e: Extents<$n>, m: $steps, o: *mut f64, oc: usize, s: *mut u32, sc: usize) -> HeadAnswer<$head>;
             fn $reset(m: $head, o: *mut f64, oc: usize, s: *mut u32, sc: usize) -> HeadAnswer<$head>;
             fn $begin_scan(m: $head, s: *mut u32, sc: usize) -> HeadAnswer<$head>;
@@ -111,6 +128,9 @@ macro_rules! face {
             fn update_ray(m: Map<$n>, o: &mut [f64], s: &mut [u32], b: Beam<$n>) -> CountAnswer {
                 unsafe { $update_ray(m.cross(), o.as_mut_ptr(), o.len(), s.as_mut_ptr(), s.len(), b) }
             }
+            $(fn update_vertical(m: Map<$n>, o: &mut [f64], s: &mut [u32], b: VerticalBeam) -> Option<CountAnswer> {
+                Some(unsafe { $update_vertical(m.cross(), o.as_mut_ptr(), o.len(), s.as_mut_ptr(), s.len(), b) })
+            })?
             fn mark_free(m: Map<$n>, o: &mut [f64], s: &mut [u32], c: Cell<$n>) -> MarkAnswer {
                 unsafe { $mark_free(m.cross(), o.as_mut_ptr(), o.len(), s.as_mut_ptr(), s.len(), c) }
             }
@@ -190,5 +210,6 @@ face!(
     tembuzar_sample_all_log_odds3,
     tembuzar_cell_containing3,
     tembuzar_plotter3,
-    tembuzar_step3
+    tembuzar_step3,
+    vertical tembuzar_update_vertical3
 );

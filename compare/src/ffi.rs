@@ -158,6 +158,16 @@ pub struct Beam<const N: usize> {
 
 #[repr(C)]
 #[derive(Clone, Copy, Debug)]
+pub struct VerticalBeam {
+    pub x: u64,
+    pub y: u64,
+    pub bottom: u64,
+    pub top: u64,
+    pub hit: bool,
+}
+
+#[repr(C)]
+#[derive(Clone, Copy, Debug)]
 pub struct Sample<const N: usize> {
     pub value: c_double,
     pub gradient: [c_double; N],
@@ -245,6 +255,7 @@ mod tests {
         assert_eq!(size_of::<Refusal>(), 56);
         assert_eq!((size_of::<Map<2>>(), size_of::<Map3>()), (48, 104));
         assert_eq!((size_of::<Beam<2>>(), size_of::<Beam<3>>()), (40, 56));
+        assert_eq!((size_of::<VerticalBeam>(), offset_of!(VerticalBeam, hit)), (40, 32));
         assert_eq!((size_of::<Line<2>>(), size_of::<Line<3>>()), (104, 144));
         assert_eq!((size_of::<MarkAnswer>(), size_of::<CountAnswer>(), size_of::<OddsAnswer>()), (64, 64, 72));
         assert_eq!((size_of::<MapAnswer<2>>(), size_of::<HeadAnswer<Map3>>()), (104, 160));

@@ -17,6 +17,7 @@ mod tally;
 #[cfg(test)]
 mod tests;
 mod time;
+mod upright;
 #[cfg(test)]
 mod wrong;
 

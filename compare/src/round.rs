@@ -57,7 +57,7 @@ pub fn round<L: Face<N>, const N: usize>(
 fn one_call<L: Face<N>, const N: usize>(work: &mut Work<N>) -> Verdict {
     match work.rng.below(64) {
         0..=31 => work.lists::<L>(),
-        32..=43 => work.rays::<L>(),
+        32..=43 => work.rays::<L>().and_then(|_| work.verticals::<L>()),
         44..=46 => work.open::<L>(),
         47..=50 => work.marks::<L>(),
         51 | 52 => work.sets::<L>(),

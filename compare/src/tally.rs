@@ -10,6 +10,8 @@ pub struct Tally {
     pub lists_refused: u64,
     pub struct_lists: u64,
     pub struct_beams: u64,
+    pub verticals: u64,
+    pub verticals_refused: u64,
     pub changed: u64,
     pub marks: u64,
     pub sets: u64,
@@ -45,6 +47,7 @@ impl Tally {
         line("  in lists", self.list_beams, &format!("({} lists, {} refused)", self.lists, self.lists_refused));
         line("    of them as structs", self.struct_beams, &format!("({} lists)", self.struct_lists));
         line("  marks that changed a cell", self.changed, "");
+        line("vertical beams", self.verticals, &format!("({} refused)", self.verticals_refused));
         line("marks", self.marks, "");
         line("sets", self.sets, "");
         line("reads", self.reads, "");

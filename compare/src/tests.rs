@@ -3,7 +3,7 @@
 use crate::face::{Face, Tembuzar};
 use crate::ffi::{
     Beam, Cell as C, CellAnswer, CountAnswer, Extents, Line, LineAnswer, Map, MapAnswer, MarkAnswer, Model, OddsAnswer,
-    Point, Refusal, SampleAnswer, StepAnswer,
+    Point, Refusal, SampleAnswer, StepAnswer, VerticalBeam,
 };
 use crate::round::round;
 use crate::tally::Tally;
@@ -102,6 +102,25 @@ where
             _ => (),
         }
         answer
+    }
+    fn update_vertical(
+        map: Map<N>,
+        odds: &mut [f64],
+        stamps: &mut [u32],
+        mut beam: VerticalBeam,
+    ) -> Option<CountAnswer> {
+        let height = map.extents.0[N - 1];
+        match WRONG.get() {
+            VERTICAL_RAN_OUT if beam.top == height && beam.bottom < height => beam.top -= 1,
+            VERTICAL_ONE_SHORT if beam.top > beam.bottom && beam.top < height => beam.top -= 1,
+            VERTICAL_PROFILE if beam.top > height => beam.top = height,
+            _ => (),
+        }
+        let answer = Tembuzar::update_vertical(map, odds, stamps, beam)?;
+        if is(VERTICAL_ODDS_BIT) && answer.count > 0 {
+            turn(last(odds));
+        }
+        Some(answer)
     }
     fn mark_free(map: Map<N>, odds: &mut [f64], stamps: &mut [u32], cell: C<N>) -> MarkAnswer {
         let mut answer = Tembuzar::mark_free(map, odds, stamps, cell);
@@ -211,6 +230,12 @@ fn found(what: u32, kind: &str) {
     }
 }
 
+/// The same of what there is on three axes alone.
+fn found3(what: u32, kind: &str) {
+    let words = first_difference::<3>(what).unwrap_or_else(|| panic!("wrong thing {what} was not found"));
+    assert!(words.contains(kind), "wrong thing {what} was found, but in another call:\n{words}");
+}
+
 #[test]
 fn nothing_wrong_nothing_found() {
     assert_eq!(first_difference::<2>(NOTHING), None);
@@ -231,6 +256,14 @@ fn wrong_beams_are_found() {
     found(STRUCTS_PLACE, "list of structs");
     found(STRUCTS_LAST_BEAM, "list of structs");
     found(STRUCTS_HIT, "list of structs");
+}
+
+#[test]
+fn wrong_vertical_beams_are_found() {
+    found3(VERTICAL_ODDS_BIT, "vertical beams");
+    found3(VERTICAL_RAN_OUT, "vertical beams");
+    found3(VERTICAL_ONE_SHORT, "vertical beams");
+    found3(VERTICAL_PROFILE, "vertical beams");
 }
 
 #[test]

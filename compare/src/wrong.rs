@@ -48,3 +48,7 @@ pub const MANY_LAST_BIT: u32 = 33;
 pub const MANY_CLEARED: u32 = 34;
 pub const MANY_MARK: u32 = 35;
 pub const MANY_UNEQUAL: u32 = 36;
+pub const VERTICAL_ODDS_BIT: u32 = 37;
+pub const VERTICAL_RAN_OUT: u32 = 38;
+pub const VERTICAL_ONE_SHORT: u32 = 39;
+pub const VERTICAL_PROFILE: u32 = 40;

@@ -35,7 +35,7 @@ listValues [] = plain 7
 listValues (place ∷ []) = plain 7
 listValues (place ∷ count ∷ more) = inList (natAbs place) (natAbs count)
 
--- 10 to 12: "offset of the field", "bytes needed", "with its offset"; 13 and 14 have no values
+-- 10 to 12: "offset of the field", "bytes needed", "with its offset"; 13, 14 and 18 have no values
 abbrev pub recordValues : ℕ → List ℤ → CRefusal
 recordValues number [] = plain number
 recordValues number (bytes ∷ more) = inRecord number (natAbs bytes)

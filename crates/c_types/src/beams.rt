@@ -1,12 +1,13 @@
-// Beams from C, for two and three axes.
+// Beams from C, for two and three axes, and vertical beams.
 ghost use mathlib.Core.Path.{_≡_};
-ghost use Rattle.types.specs.Beams.{isHit, beam2, beam3};
-ghost use Rattle.c_types.specs.Beams.{cBeam2, cBeam3};
+ghost use Rattle.types.specs.Beams.{isHit, beam2, beam3, vertical};
+ghost use Rattle.c_types.specs.Beams.{cBeam2, cBeam3, cVertical};
 use types::Point2;
 use types::Point3;
 use types::RayTermination;
 use types::ScanBeam2;
 use types::ScanBeam3;
+use types::VerticalBeam;
 
 // Where a beam started, where it stopped, and whether that was a return: C's bool is true or false and nothing else.
 #[repr(C)]
@@ -20,6 +21,16 @@ pub struct CBeam2 {
 pub struct CBeam3 {
     pub origin: Point3,
     pub endpoint: Point3,
+    pub hit: bool,
+}
+
+// A vertical beam: its column, the heights of its ends, and whether it stopped in a return.
+#[repr(C)]
+pub struct CVerticalBeam {
+    pub x: u64,
+    pub y: u64,
+    pub bottom: u64,
+    pub top: u64,
     pub hit: bool,
 }
 
@@ -52,6 +63,18 @@ pub fn beam3_from_c(beam: CBeam3) -> ScanBeam3
     ScanBeam3 {
         origin,
         endpoint,
+        termination: termination(beam.hit),
+    }
+}
+
+pub fn vertical_from_c(beam: CVerticalBeam) -> VerticalBeam
+    ensures { λ r. ⌜ vertical r ≡ cVertical beam ⌝ }
+{
+    VerticalBeam {
+        x: beam.x,
+        y: beam.y,
+        bottom: beam.bottom,
+        top: beam.top,
         termination: termination(beam.hit),
     }
 }

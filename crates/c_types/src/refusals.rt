@@ -119,5 +119,6 @@ pub fn refusal_to_c(refusal: Refusal) -> CRefusal
         Refusal::Odds => bare(13),
         Refusal::Lists => bare(14),
         Refusal::Cuts => bare(15),
+        Refusal::Profile => bare(18),
     }
 }

@@ -22,6 +22,7 @@ use Rattle.rules.specs.RefusalNumbers.Entries.{resetEntry, beginScanEntry, mark
 use Rattle.rules.specs.TheGridAndItsBounds.{Head, Grid}
 use Rattle.rules.specs.OneBeam.{Beam, flatShape}
 use Rattle.rules.specs.SweepFile.{updateSweepEntry}
+use Rattle.rules.specs.VerticalBeam.{Vertical, updateVerticalEntry}
 
 -- ---- calls on one map
 -- a map: its head, and the lists that are lent with it
@@ -38,6 +39,7 @@ pub data Call : Type 0 where
   update-scan : List Float → List ℕ → Call
   update-beams : List Beam → Call
   update-sweep : List ℕ → Call
+  update-vertical : Vertical → Call
   open-scan : Call
   reset-map : Call
 
@@ -55,6 +57,7 @@ after f (update-ray b) m = record { head = m .head; grid = updateRayEntry f (m .
 after f (update-scan numbers hits) m = record { head = m .head; grid = updateScanEntry f (m .head) numbers hits (m .grid) .lent }
 after f (update-beams bs) m = record { head = m .head; grid = updateBeamsEntry f (m .head) bs (m .grid) .lent }
 after f (update-sweep bytes) m = record { head = m .head; grid = updateSweepEntry f (m .head) bytes (m .grid) .lent }
+after f (update-vertical b) m = record { head = m .head; grid = updateVerticalEntry f (m .head) b (m .grid) .lent }
 after f open-scan m =
     let r = beginScanEntry (m .head) (m .grid .stamps) in
     record { head = headAfter (m .head) (r .answer); grid = record { odds = m .grid .odds; stamps = r .lent } }

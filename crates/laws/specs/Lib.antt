@@ -1,5 +1,5 @@
 -- Theorems about the rules, of every format and any number of axes. `CountBound`, `WholeSample`, `DemandThree` and `MapRecord` are laws of
--- document 01, `SweepFile`, `FloorCost`, `HandCorrections`, `CheckedSet`, `OffAxes` and `ManySamples` of change requests 2, 9, 10, 3, 1 and 4, each with its statement, and the steps of its proof in the folder of its name. The others are what the code's proofs share.
+-- document 01, `SweepFile`, `FloorCost`, `HandCorrections`, `CheckedSet`, `OffAxes`, `ManySamples` and `VerticalBeam` of change requests 2, 9, 10, 3, 1, 4 and 11, each with its statement, and the steps of its proof in the folder of its name. The others are what the code's proofs share.
 pub mod Floats
 pub mod CountBound
 pub mod WholeSample
@@ -11,6 +11,7 @@ pub mod OffAxes
 pub mod ManySamples
 pub mod MapRecord
 pub mod SweepFile
+pub mod VerticalBeam
 pub mod Checks
 pub mod ModelBounds
 pub mod Bands

@@ -31,7 +31,7 @@ use Rattle.laws.specs.Floats.Differences.{upward, downward, even, differ
 use Rattle.laws.specs.OnTheMap.Coordinate.{Placed, placed, at-most}
 
 -- ---- two fractions of a beam, one 0 or less and the other 1 or more, cut nothing off
-cut-to-whole : (near far : Float) → ZeroOrLess near → OneOrMore far → cutTo near far wholeSpan ≡ some wholeSpan
+pub cut-to-whole : (near far : Float) → ZeroOrLess near → OneOrMore far → cutTo near far wholeSpan ≡ some wholeSpan
 unfolding cutTo largerOf smallerOf lt
 cut-to-whole near far p q =
     ap₂ (λ (i j : Bool). cond (lt (cond j far oneF) (cond i near zeroF)) none (some (record { entry = cond i near zeroF; exit = cond j far oneF })))

@@ -11,3 +11,4 @@ pub mod SweepFile
 pub mod FiguresToTestOn
 -- Document 02: a file for each request that adds an entry.
 pub mod ManySamples
+pub mod VerticalBeam

@@ -73,6 +73,10 @@ unequalLists = record { number = 14; values = [] }
 abbrev pub badCuts : Refusal
 badCuts = record { number = 15; values = [] }
 
+-- document 02, request 11: "18, outside the profile"
+abbrev pub outsideProfile : Refusal
+outsideProfile = record { number = 18; values = [] }
+
 -- an answer: what was asked for, or the refusal
 pub data Answer (A : Type 0) : Type 0 where
   given : A → Answer A

@@ -9,3 +9,4 @@ mod record;
 mod sweep2;
 mod sweep3;
 mod sweep_file;
+mod vertical_beam;

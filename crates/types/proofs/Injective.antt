@@ -10,6 +10,7 @@ use lib.Ieee.{Float, nan}
 use Rattle.rules.specs.TheGridAndItsBounds as Grid
 use Rattle.rules.specs.Coordinates as Coordinates
 use Rattle.rules.specs.OneBeam as Beam
+use Rattle.rules.specs.VerticalBeam as Vertical
 use Rattle.types.specs.declared.points.Point2.{Point2}
 use Rattle.types.specs.declared.points.Point3.{Point3}
 use Rattle.types.specs.declared.points.Vector2.{Vector2}
@@ -25,6 +26,7 @@ use Rattle.types.specs.declared.samples.MapSample2.{MapSample2}
 use Rattle.types.specs.declared.samples.MapSample3.{MapSample3}
 use Rattle.types.specs.declared.beams.ScanBeam2.{ScanBeam2}
 use Rattle.types.specs.declared.beams.ScanBeam3.{ScanBeam3}
+use Rattle.types.specs.declared.beams.VerticalBeam.{VerticalBeam}
 use Rattle.types.specs.declared.beams.Clipped2.{Clipped2}
 use Rattle.types.specs.declared.beams.Clipped3.{Clipped3}
 use Rattle.types.specs.declared.beams.RayTermination.{RayTermination}
@@ -32,7 +34,7 @@ use Rattle.types.specs.declared.beams.RayTermination.the-variants.{Hit, 
 use Rattle.types.specs.Points.{point2, point3, vector2, vector3, cell2, cell3, extents2, extents3}
 use Rattle.types.specs.Models.{modelOf, bandsOf}
 use Rattle.types.specs.Samples.{sample2, sample3}
-use Rattle.types.specs.Beams.{isHit, beam2, beam3, clipped2, clipped3}
+use Rattle.types.specs.Beams.{isHit, beam2, beam3, vertical, clipped2, clipped3}
 
 abbrev pub Injective : {A B : Type 0} → (A → B) → Type 0
 Injective {A} f = (a b : A) → f a ≡ f b → a ≡ b
@@ -162,3 +164,11 @@ pub beam3-injective : Injective beam3
 beam3-injective =
     of-back beam3 beam3-back
     (λ b. ap (λ (t : RayTermination). record { origin = b .origin; endpoint = b .endpoint; termination = t }) (hit-there (b .termination)))
+
+abbrev pub vertical-back : Vertical.Vertical → VerticalBeam
+vertical-back b = record { x = b .x; y = b .y; bottom = b .bottom; top = b .top; termination = hit-back (b .hit) }
+
+pub vertical-injective : Injective vertical
+vertical-injective =
+    of-back vertical vertical-back
+    (λ b. ap (λ (t : RayTermination). record { x = b .x; y = b .y; bottom = b .bottom; top = b .top; termination = t }) (hit-there (b .termination)))

@@ -49,7 +49,8 @@ refusal-back r =
     (cond (eqb n 11) (R.Room (value r 0))
     (cond (eqb n 12) (R.Sweep (value r 0))
     (cond (eqb n 13) R.Odds
-    (cond (eqb n 14) R.Lists R.Cuts)))))))))))))
+    (cond (eqb n 14) R.Lists
+    (cond (eqb n 15) R.Cuts R.Profile))))))))))))))
 
 pub refusal-there : (r : Refusal.Refusal) → refusal-back (refusalOf r) ≡ r
 unfolding refusal-back value
@@ -69,6 +70,7 @@ refusal-there (R.Sweep offset) = refl
 refusal-there R.Odds = refl
 refusal-there R.Lists = refl
 refusal-there R.Cuts = refl
+refusal-there R.Profile = refl
 
 pub refusal-injective : Injective refusalOf
 refusal-injective = of-back refusalOf refusal-back refusal-there

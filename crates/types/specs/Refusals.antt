@@ -2,7 +2,7 @@
 use Rattle.rules.specs.RefusalNumbers as Paper
 use Rattle.types.specs.declared.refusal.Refusal as Code
 use Rattle.types.specs.declared.refusal.Refusal.the-variants.{DimensionTooSmall, CapacityOverflow, Model, Buffer, OutOfBounds}
-use Rattle.types.specs.declared.refusal.Refusal.the-variants.{NonFiniteCoordinate, Ray, RayInList, Beams, Frame, Record, Room, Sweep, Odds, Lists, Cuts}
+use Rattle.types.specs.declared.refusal.Refusal.the-variants.{NonFiniteCoordinate, Ray, RayInList, Beams, Frame, Record, Room, Sweep, Odds, Lists, Cuts, Profile}
 
 abbrev pub refusalOf : Code.Refusal → Paper.Refusal
 refusalOf (DimensionTooSmall axis extent) = Paper.dimensionTooSmall axis extent
@@ -21,3 +21,4 @@ refusalOf (Sweep offset) = Paper.brokenSweep offset
 refusalOf Odds = Paper.oddsNotANumber
 refusalOf Lists = Paper.unequalLists
 refusalOf Cuts = Paper.badCuts
+refusalOf Profile = Paper.outsideProfile

@@ -23,6 +23,16 @@ pub struct ScanBeam3 {
     pub termination: RayTermination,
 }
 
+// A measurement of an instrument that looks straight up and sends whole numbers: the column, the height of the cell it starts in, and
+// that of the cell it stopped in. A top height of the map's own extent says that the beam ran out.
+pub struct VerticalBeam {
+    pub x: u64,
+    pub y: u64,
+    pub bottom: u64,
+    pub top: u64,
+    pub termination: RayTermination,
+}
+
 // A segment clipped to the map, both ends clamped to cells of it, and whether its computed end lay inside.
 pub struct Clipped2 {
     pub entry: Point2,

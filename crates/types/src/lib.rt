@@ -26,6 +26,7 @@ pub use beams::Clipped3;
 pub use beams::RayTermination;
 pub use beams::ScanBeam2;
 pub use beams::ScanBeam3;
+pub use beams::VerticalBeam;
 pub use frames::Frame;
 pub use frames::Stamp;
 pub use model::Bands;

@@ -52,4 +52,6 @@ pub enum Refusal {
     Lists,
     // The heights at which bands begin are not 0 < first < second < the last extent.
     Cuts,
+    // The vertical beam is outside its profile.
+    Profile,
 }

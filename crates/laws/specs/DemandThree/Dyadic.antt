@@ -11,13 +11,9 @@ use lib.Dec.{T, leb, ltb, eqb, lit≤}
 use lib.Pow.{pow-add, pow-pos, pow-mono}
 use lib.Ieee.{Float, inf, Format, binary32, binary64, prec, emax, low, round, odd, units, sum, add, sub, neg, below, level, lt, le}
 use lib.Ieee.Exact.{HasValue, round-exact}
-use Rattle.laws.specs.Floats.Tests.{order, ltb-iff, eqb-iff, eqb-both, lt-or-eq}
+use Rattle.laws.specs.Floats.Tests.{and-true, order, ltb-iff, eqb-iff, eqb-both, lt-or-eq}
 use Rattle.laws.specs.DemandThree.{places}
 use Rattle.laws.specs.Floats.Values.{add-value, lt-value, eq-value}
-
-and-true : (p : Bool) → p && true ≡ p
-and-true true = refl
-and-true false = refl
 
 -- n units with the sign s
 abbrev pub at : Format → Bool → ℕ → Float

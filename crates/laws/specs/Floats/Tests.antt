@@ -14,6 +14,10 @@ bool-ext true false f g = absurd (f tt)
 bool-ext false true f g = absurd (g tt)
 bool-ext false false f g = refl
 
+pub and-true : (p : Bool) → p && true ≡ p
+and-true true = refl
+and-true false = refl
+
 pub or-cases : (p q : Bool) → T (p || q) → T p ⊎ T q
 or-cases true q t = inl tt
 or-cases false q t = inr t

@@ -9,21 +9,22 @@ use native.Mathlib.Omega.{arith}
 use lib.IntN.{ℤ}
 use lib.ListN.{length, length-set, length-replicate}
 use lib.Ieee.{Float, isNan, Format}
-use Rattle.rules.specs.RefusalNumbers.{Refusal, Answer, given, refused, badBuffer, badBeams}
+use Rattle.rules.specs.RefusalNumbers.{Refusal, Answer, given, refused, badBuffer, badBeams, outsideProfile}
 use Rattle.rules.specs.RefusalNumbers.Entries.{Outcome, orElse, unlessHolds, unlessRefused, extentsRefusal, headRefusal, usesOf, reset, begin-scan, marks, beams}
 use Rattle.rules.specs.RefusalNumbers.Entries.{resetEntry, beginScanEntry, markAnswer, markEntry, ofIntegrated, updateRayEntry, updateScanEntry, updateBeamsEntry, setLogOddsEntry, setLogOddsCheckedEntry}
 use Rattle.rules.specs.TheGridAndItsBounds.{Model, Head, Grid, cells, onePerCell, freshGrid, freshFrame}
 use Rattle.rules.specs.Coordinates.{flatIndex}
 use Rattle.rules.specs.MarksAndFrames.{openedFrame, openedStamps}
-use Rattle.rules.specs.OneBeam.{Beam, integratedBeam, integrated, flatShape, beamsOf}
+use Rattle.rules.specs.OneBeam.{Beam, integratedMarks, integratedBeam, integrated, flatShape, beamsOf}
 use Rattle.rules.specs.SweepFile.{Sweep, Swept, sweepOf, sweepAnswer, updateSweepEntry}
+use Rattle.rules.specs.VerticalBeam.{Vertical, inProfile, verticalMarks, updateVerticalEntry}
 use Rattle.laws.specs.Checks.{passed}
 use Rattle.laws.specs.DemandThree.Proof.{opened-length}
-use Rattle.laws.specs.HandCorrections.{Map, Call, set-odds, set-checked, mark, update-ray, update-scan, update-beams, update-sweep, open-scan, reset-map, headAfter, after, afterAll}
+use Rattle.laws.specs.HandCorrections.{Map, Call, set-odds, set-checked, mark, update-ray, update-scan, update-beams, update-sweep, update-vertical, open-scan, reset-map, headAfter, after, afterAll}
 use Rattle.laws.specs.CheckedSet.{number-set, nan-refused}
 use Rattle.laws.specs.HandCorrections.Sets.{set-length}
 use Rattle.laws.specs.HandCorrections.Lists.{list-is, list-keeps}
-use Rattle.laws.specs.HandCorrections.Sweeps.{beam-odds, beam-stamps}
+use Rattle.laws.specs.HandCorrections.Sweeps.{marks-odds, marks-stamps, beam-odds, beam-stamps}
 
 -- ---- what every call keeps
 record Kept (a b : Map) : Type 0 where
@@ -142,6 +143,15 @@ sweep-kept f h bytes g =
     let a = sweepOf (length (h .extents)) bytes in
     unless-sized {A = Swept} (headRefusal (usesOf beams) h (length (g .odds)) (length (g .stamps))) g (sweepAnswer f h g a) (sweep-sized f h g a)
 
+vertical-kept : (f : Format) (h : Head) (b : Vertical) (g : Grid) → Sized g (updateVerticalEntry f h b g .lent)
+unfolding updateVerticalEntry
+vertical-kept f h b g =
+    let marks-of = given (verticalMarks (h .extents) b) in
+    unless-sized {A = ℕ}
+    (orElse (headRefusal (usesOf beams) h (length (g .odds)) (length (g .stamps))) (unlessHolds true (inProfile (h .extents) b) outsideProfile)) g
+    (ofIntegrated (integratedMarks f (h .model) (h .frame) g marks-of))
+    (record { odds = marks-odds f (h .model) (h .frame) marks-of g; stamps = marks-stamps f (h .model) (h .frame) marks-of g })
+
 checked-length : (h : Head) (cell : List ℤ) (x : Float) (odds : List Float) → length (setLogOddsCheckedEntry h cell x odds .lent) ≡ length odds
 checked-length h cell x odds = go (isNan x) refl
   where
@@ -160,6 +170,7 @@ call-keeps f (update-ray b) m = same-head m (updateRayEntry f (m .head) b (m .gr
 call-keeps f (update-scan numbers hits) m = same-head m (updateScanEntry f (m .head) numbers hits (m .grid) .lent) (scan-kept f (m .head) numbers hits (m .grid))
 call-keeps f (update-beams bs) m = same-head m (updateBeamsEntry f (m .head) bs (m .grid) .lent) (beams-kept f (m .head) bs (m .grid))
 call-keeps f (update-sweep bytes) m = same-head m (updateSweepEntry f (m .head) bytes (m .grid) .lent) (sweep-kept f (m .head) bytes (m .grid))
+call-keeps f (update-vertical b) m = same-head m (updateVerticalEntry f (m .head) b (m .grid) .lent) (vertical-kept f (m .head) b (m .grid))
 call-keeps f open-scan m = opened-kept m (headRefusal (usesOf begin-scan) (m .head) 0 (length (m .grid .stamps)))
 call-keeps f reset-map m = fresh-kept m (tried m) refl
 

@@ -17,11 +17,11 @@ use Rattle.laws.specs.HandCorrections.Lists.{Ended, done, stopped, behin
 
 -- ---- a list keeps the lengths of what it was lent
 module _ (f : Format) (m : Model) (k : ℕ) where
-  marks-odds : (a : Answer (List Mark)) (g : Grid) → length (integratedMarks f m k g a .grid .odds) ≡ length (g .odds)
+  pub marks-odds : (a : Answer (List Mark)) (g : Grid) → length (integratedMarks f m k g a .grid .odds) ≡ length (g .odds)
   marks-odds (given xs) g = marked-odds f m k xs g
   marks-odds (refused r) g = refl
 
-  marks-stamps : (a : Answer (List Mark)) (g : Grid) → length (integratedMarks f m k g a .grid .stamps) ≡ length (g .stamps)
+  pub marks-stamps : (a : Answer (List Mark)) (g : Grid) → length (integratedMarks f m k g a .grid .stamps) ≡ length (g .stamps)
   marks-stamps (given xs) g = marked-stamps f m k xs g
   marks-stamps (refused r) g = refl
 

@@ -101,6 +101,12 @@ enum-told-9 c = search needs
 bare-requires-9 : tie.Need-bare-requires-9
 bare-requires-9 c κs = search needs
 
+enum-told-10 : tie.Need-enum-told-10
+enum-told-10 c = search needs
+
+bare-requires-10 : tie.Need-bare-requires-10
+bare-requires-10 c κs = search needs
+
 returns : tie.Need-returns
 returns c = simp (c .on-grid .ensures, c .before .before .refusal .given .1)
 
@@ -151,6 +157,9 @@ returns-15 c = simp (c .bare8 .ensures, c .before .enum-told8 .given .1)
 returns-16 : tie.Need-returns-16
 returns-16 c = simp (c .bare9 .ensures, c .before .enum-told9 .given .1)
 
+returns-17 : tie.Need-returns-17
+returns-17 c = simp (c .bare10 .ensures, c .before .enum-told10 .given .1)
+
 pub refusal-to-c-spec : {M : Type 1} → statement M
 refusal-to-c-spec =
     tie.close
@@ -187,6 +196,8 @@ refusal-to-c-spec =
     bare-requires-8
     enum-told-9
     bare-requires-9
+    enum-told-10
+    bare-requires-10
     returns
     returns-2
     returns-3
@@ -202,4 +213,5 @@ refusal-to-c-spec =
     returns-13
     returns-14
     returns-15
-    returns-16)
+    returns-16
+    returns-17)
