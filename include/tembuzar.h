@@ -10,7 +10,8 @@
  * docs/ENTRIES.md names the rule of each.
  * Link with target/staticlib/libtembuzar.a, which `rt staticlib tembuzar` writes for x86-64 Linux. The two functions that
  * sample many points in one call are in a library of their own, target/staticlib/libtembuzar_samples.a, which
- * `rt staticlib tembuzar_samples` writes; it needs nothing of the other.
+ * `rt staticlib tembuzar_samples` writes; it needs nothing of the other. So are those of charts, in
+ * target/staticlib/libtembuzar_charts.a.
  *
  * WHAT THE CALLER HOLDS
  *
@@ -23,8 +24,8 @@
  *
  *   1. A list is a pointer to its first element and the number of its elements. The elements are there, aligned
  *      as C aligns their type, and not touched by another thread during the call. They are set, except that new, reset
- *      and read_record take odds and stamps that are not, write_record and write_sweep an output, and sample_all_log_odds
- *      samples and found. Where the number is 0, the pointer may be NULL.
+ *      and read_record take odds and stamps that are not, write_record and write_sweep an output, sample_all_log_odds
+ *      samples and found, and layer_chart a chart. Where the number is 0, the pointer may be NULL.
  *   2. Where a call takes several lists, those that it may change (those not const) overlap no other of its lists.
  *   3. A bool is true or false, in a list of beams too.
  *   4. A pointer to a head, which open_scan takes, is not NULL. The head is there, set, aligned and untouched by others, as
@@ -76,11 +77,13 @@ enum tembuzar_number {
     TEMBUZAR_BEAMS = 8,                 /* the flat list is no list of beams */
     TEMBUZAR_FRAME = 9,                 /* the head's frame is 0 or above TEMBUZAR_HIGHEST_FRAME */
     TEMBUZAR_RECORD = 10,               /* a map record is broken. Gives bytes: the offset of the field */
-    TEMBUZAR_ROOM = 11,                 /* the output is shorter than the record or file. Gives bytes: how many it needs */
+    TEMBUZAR_ROOM = 11,                 /* the output is shorter than the record, file or chart. Gives bytes: how many it needs,
+                                           for a chart numbers */
     TEMBUZAR_SWEEP = 12,                /* a sweep file is broken. Gives bytes: the offset of the field */
     TEMBUZAR_ODDS = 13,                 /* the odds are not a number */
     TEMBUZAR_LISTS = 14,                /* points, samples and marks are not for the same number of points */
-    TEMBUZAR_CUTS = 15,                 /* the cuts are not 0 < first < second < extents.z: see tembuzar_bands */
+    TEMBUZAR_CUTS = 15,                 /* the cuts are not 0 < first < second < extents.z, or the map has two axes */
+    TEMBUZAR_COLUMN = 17,               /* a column of a chart holds NaN. Gives place: the column (the first such) */
     TEMBUZAR_PROFILE = 18               /* a vertical beam is outside its profile: see tembuzar_update_vertical3 */
 };
 
@@ -93,9 +96,9 @@ typedef struct tembuzar_refusal {
     uint64_t axis;   /* 1, 5, 6: 0 for x, 1 for y, 2 for z */
     int64_t index;   /* 5: the cell's index on that axis; of a point, its coordinate cut to a whole number */
     uint64_t extent; /* 1, 5: the extent of that axis */
-    uint64_t place;  /* 7 in a list: the place of the refused beam, from 0 */
+    uint64_t place;  /* 7 in a list: the place of the refused beam, from 0. 17: the column, x + extents.x * y */
     uint64_t count;  /* 7 in a list: the count of the beams before it */
-    uint64_t bytes;  /* 10, 12: the offset of the field in the record or file. 11: how many bytes it has */
+    uint64_t bytes;  /* 10, 12: the offset of the field in the record or file. 11: how many bytes it has; of a chart, numbers */
 } tembuzar_refusal;
 
 /* ---- Maps ---- */
@@ -553,6 +556,33 @@ tembuzar_sweep_answer tembuzar_update_sweep3(tembuzar_map3 map,
 
 tembuzar_count_answer tembuzar_write_sweep3(uint16_t station, const double *numbers, size_t numbers_count,
                                             const uint8_t *hits, size_t hits_count, uint8_t *out, size_t out_count);
+
+/* ---- Charts: the cover of a map of three axes, seen column by column ----
+ *
+ * The column (x, y) is number x + extents.x * y. It has five numbers in a chart, as an array of tembuzar_column has: the
+ * cover of its low, middle and high band in eighths, 0 to 8, the total by maximum overlap, which is the largest band, and
+ * the total by random overlap over 512, which is 512 - (8 - low) * (8 - middle) * (8 - high). A band takes its largest cell.
+ * A cell's eighths are how many of these its odds are at or above:
+ *
+ *   -1.9459101490553132, -1.0986122886681098, -0.5108256237659907, 0,
+ *    0.5108256237659907,  1.0986122886681098,  1.9459101490553132
+ *
+ * but 8 where they are at or above the ceiling. random is never below 64 * maximum; they are equal exactly where two bands or
+ * more are 0, or one is 8. */
+typedef struct tembuzar_column {
+    uint16_t low, middle, high;
+    uint16_t maximum; /* of 8 */
+    uint16_t random;  /* of 512 */
+} tembuzar_column;
+
+/* The chart of a map, five numbers for each column from the first of chart on; what follows them in chart stays. number is 0
+ * where it was done. Refuses with 1, 2, 3, 15, 4, 11, 17, each before anything is written. 11: chart has less than
+ * 5 * extents.x * extents.y numbers; bytes is how many that are. 17: place is the first column that holds NaN. */
+tembuzar_refusal tembuzar_layer_chart3(tembuzar_map3 map, const double *odds, size_t odds_count,
+                                       uint16_t *chart, size_t chart_count);
+
+/* A map of two axes has no cuts, and no chart. Refuses with 1, 2, 3, 15. */
+tembuzar_refusal tembuzar_layer_chart2(tembuzar_map2 map, uint16_t *chart, size_t chart_count);
 
 #ifdef __cplusplus
 }

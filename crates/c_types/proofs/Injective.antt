@@ -68,7 +68,8 @@ refusal-back c =
     (cond (eqb n 12) (R.Sweep (c .bytes))
     (cond (eqb n 13) R.Odds
     (cond (eqb n 14) R.Lists
-    (cond (eqb n 15) R.Cuts R.Profile))))))))))))))
+    (cond (eqb n 15) R.Cuts
+    (cond (eqb n 18) R.Profile (R.Column (c .place)))))))))))))))))
 
 -- an answer where the number is 0, else the refusal
 abbrev read-back : {T : Type 0} → T → (Refusal.Refusal → T) → CRefusal → T
@@ -92,6 +93,7 @@ refused-there ok not-ok R.Odds = refl
 refused-there ok not-ok R.Lists = refl
 refused-there ok not-ok R.Cuts = refl
 refused-there ok not-ok R.Profile = refl
+refused-there ok not-ok (R.Column column) = refl
 
 abbrev mark-back : CMarkAnswer → Mark.MarkAnswer
 mark-back c = read-back (Mark.the-variants.Changed (c .changed)) Mark.the-variants.Refused (c .refusal)

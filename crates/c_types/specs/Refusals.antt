@@ -35,7 +35,15 @@ listValues [] = plain 7
 listValues (place ∷ []) = plain 7
 listValues (place ∷ count ∷ more) = inList (natAbs place) (natAbs count)
 
--- 10 to 12: "offset of the field", "bytes needed", "with its offset"; 13, 14 and 18 have no values
+-- 17: "with the column"
+abbrev pub inChart : ℕ → CRefusal
+inChart column = record { number = 17; values = 1; axes = 0; axis = 0; index = pos 0; extent = 0; place = column; count = 0; bytes = 0 }
+
+abbrev pub chartValues : List ℤ → CRefusal
+chartValues [] = plain 17
+chartValues (column ∷ more) = inChart (natAbs column)
+
+-- 10 to 12: "offset of the field", "bytes needed", "with its offset"; 13 to 15 and 18 have no values
 abbrev pub recordValues : ℕ → List ℤ → CRefusal
 recordValues number [] = plain number
 recordValues number (bytes ∷ more) = inRecord number (natAbs bytes)
@@ -43,4 +51,5 @@ recordValues number (bytes ∷ more) = inRecord number (natAbs bytes)
 abbrev pub cRefusal : Refusal → CRefusal
 cRefusal r =
     cond (eqb (r .number) 7) (listValues (r .values))
-    (cond (ltb 9 (r .number)) (recordValues (r .number) (r .values)) (gridValues (r .number) (r .values)))
+    (cond (eqb (r .number) 17) (chartValues (r .values))
+    (cond (ltb 9 (r .number)) (recordValues (r .number) (r .values)) (gridValues (r .number) (r .values))))

@@ -2,7 +2,7 @@
 // counts are never negative and stay unsigned, so every refusal has its struct, whatever its values.
 ghost use mathlib.Core.Path.{_≡_};
 ghost use Rattle.types.specs.Refusals.{refusalOf};
-ghost use Rattle.c_types.specs.Refusals.{plain, onGrid, inList, inRecord, cRefusal};
+ghost use Rattle.c_types.specs.Refusals.{plain, onGrid, inList, inChart, inRecord, cRefusal};
 use types::Refusal;
 
 #[repr(C)]
@@ -19,10 +19,10 @@ pub struct CRefusal {
     pub index: i64,
     // 1 and 5.
     pub extent: u64,
-    // 7 in a list: the refused beam's place, from 0, and the count of the beams before it.
+    // 7 in a list: the refused beam's place, from 0, and the count of the beams before it. 17: the column's place.
     pub place: u64,
     pub count: u64,
-    // 10 and 12: the offset of the broken field. 11: the bytes needed.
+    // 10 and 12: the offset of the broken field. 11: the bytes needed, or a chart's numbers.
     pub bytes: u64,
 }
 
@@ -77,7 +77,24 @@ fn in_list(place: u64, count: u64) -> CRefusal
     }
 }
 
-// A refusal of a map record or a sweep file.
+// A refusal of one column of a chart.
+fn in_chart(column: u64) -> CRefusal
+    ensures { λ r. ⌜ r ≡ inChart column ⌝ }
+{
+    CRefusal {
+        number: 17,
+        values: 1,
+        axes: 0,
+        axis: 0,
+        index: 0,
+        extent: 0,
+        place: column,
+        count: 0,
+        bytes: 0,
+    }
+}
+
+// A refusal of a map record or a sweep file, or of too little room.
 fn in_record(number: u32, bytes: u64) -> CRefusal
     ensures { λ r. ⌜ r ≡ inRecord number bytes ⌝ }
 {
@@ -120,5 +137,6 @@ pub fn refusal_to_c(refusal: Refusal) -> CRefusal
         Refusal::Lists => bare(14),
         Refusal::Cuts => bare(15),
         Refusal::Profile => bare(18),
+        Refusal::Column { column } => in_chart(column),
     }
 }

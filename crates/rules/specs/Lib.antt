@@ -12,3 +12,4 @@ pub mod FiguresToTestOn
 -- Document 02: a file for each request that adds an entry.
 pub mod ManySamples
 pub mod VerticalBeam
+pub mod LayerChart

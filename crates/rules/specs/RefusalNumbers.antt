@@ -77,6 +77,10 @@ badCuts = record { number = 15; values = [] }
 abbrev pub outsideProfile : Refusal
 outsideProfile = record { number = 18; values = [] }
 
+-- document 02, request 8: "17 for the first column holding NaN, with the column"
+abbrev pub nanColumn : ℕ → Refusal
+nanColumn column = record { number = 17; values = pos column ∷ [] }
+
 -- an answer: what was asked for, or the refusal
 pub data Answer (A : Type 0) : Type 0 where
   given : A → Answer A

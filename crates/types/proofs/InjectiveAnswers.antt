@@ -50,7 +50,8 @@ refusal-back r =
     (cond (eqb n 12) (R.Sweep (value r 0))
     (cond (eqb n 13) R.Odds
     (cond (eqb n 14) R.Lists
-    (cond (eqb n 15) R.Cuts R.Profile))))))))))))))
+    (cond (eqb n 15) R.Cuts
+    (cond (eqb n 18) R.Profile (R.Column (value r 0)))))))))))))))))
 
 pub refusal-there : (r : Refusal.Refusal) → refusal-back (refusalOf r) ≡ r
 unfolding refusal-back value
@@ -71,6 +72,7 @@ refusal-there R.Odds = refl
 refusal-there R.Lists = refl
 refusal-there R.Cuts = refl
 refusal-there R.Profile = refl
+refusal-there (R.Column column) = refl
 
 pub refusal-injective : Injective refusalOf
 refusal-injective = of-back refusalOf refusal-back refusal-there

@@ -50,8 +50,12 @@ pub enum Refusal {
     Odds,
     // The lists of points, samples and marks are not for the same number of points.
     Lists,
-    // The heights at which bands begin are not 0 < first < second < the last extent.
+    // The heights at which bands begin are not 0 < first < second < the last extent, or the map has none.
     Cuts,
     // The vertical beam is outside its profile.
     Profile,
+    // This column of a chart, the first such, holds NaN.
+    Column {
+        column: u64,
+    },
 }

@@ -107,6 +107,12 @@ enum-told-10 c = search needs
 bare-requires-10 : tie.Need-bare-requires-10
 bare-requires-10 c κs = search needs
 
+enum-known-refusal-8 : tie.Need-enum-known-refusal-8
+enum-known-refusal-8 c = search needs
+
+in-chart-requires : tie.Need-in-chart-requires
+in-chart-requires c κs = search needs
+
 returns : tie.Need-returns
 returns c = simp (c .on-grid .ensures, c .before .before .refusal .given .1)
 
@@ -160,6 +166,9 @@ returns-16 c = simp (c .bare9 .ensures, c .before .enum-told9 .given .1)
 returns-17 : tie.Need-returns-17
 returns-17 c = simp (c .bare10 .ensures, c .before .enum-told10 .given .1)
 
+returns-18 : tie.Need-returns-18
+returns-18 c = simp (c .in-chart .ensures, c .before .before .refusal8 .given .1)
+
 pub refusal-to-c-spec : {M : Type 1} → statement M
 refusal-to-c-spec =
     tie.close
@@ -198,6 +207,8 @@ refusal-to-c-spec =
     bare-requires-9
     enum-told-10
     bare-requires-10
+    enum-known-refusal-8
+    in-chart-requires
     returns
     returns-2
     returns-3
@@ -214,4 +225,5 @@ refusal-to-c-spec =
     returns-14
     returns-15
     returns-16
-    returns-17)
+    returns-17
+    returns-18)

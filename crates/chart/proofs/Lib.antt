@@ -1,0 +1,3 @@
+pub mod Filling
+pub mod Sizes
+pub mod Stack
