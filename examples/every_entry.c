@@ -1,6 +1,7 @@
 /*
  * Every function of tembuzar.h but those of charts, in two axes and in three, each with what it is expected to answer in brackets.
- * The numbers in a call differ from each other, so that a field in the wrong place would show. chart.c calls those of charts.
+ * The numbers in a call differ from each other, so that a field in the wrong place would show. chart.c and season.c call
+ * those of charts.
  *
  * Build and run, from the repository's root on x86-64 Linux:
  *

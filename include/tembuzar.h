@@ -25,7 +25,8 @@
  *   1. A list is a pointer to its first element and the number of its elements. The elements are there, aligned
  *      as C aligns their type, and not touched by another thread during the call. They are set, except that new, reset
  *      and read_record take odds and stamps that are not, write_record and write_sweep an output, sample_all_log_odds
- *      samples and found, and layer_chart a chart. Where the number is 0, the pointer may be NULL.
+ *      samples and found, layer_chart a chart, and start_report
+ *      a report. Where the number is 0, the pointer may be NULL.
  *   2. Where a call takes several lists, those that it may change (those not const) overlap no other of its lists.
  *   3. A bool is true or false, in a list of beams too.
  *   4. A pointer to a head, which open_scan takes, is not NULL. The head is there, set, aligned and untouched by others, as
@@ -84,7 +85,10 @@ enum tembuzar_number {
     TEMBUZAR_LISTS = 14,                /* points, samples and marks are not for the same number of points */
     TEMBUZAR_CUTS = 15,                 /* the cuts are not 0 < first < second < extents.z, or the map has two axes */
     TEMBUZAR_COLUMN = 17,               /* a column of a chart holds NaN. Gives place: the column (the first such) */
-    TEMBUZAR_PROFILE = 18               /* a vertical beam is outside its profile: see tembuzar_update_vertical3 */
+    TEMBUZAR_PROFILE = 18,              /* a vertical beam is outside its profile: see tembuzar_update_vertical3 */
+    TEMBUZAR_SIZES = 19,                /* a report, its charts or another report are not of the same size */
+    TEMBUZAR_CHARTS = 20,               /* a report would have more than TEMBUZAR_MOST_CHARTS charts */
+    TEMBUZAR_CHART = 21                 /* a chart or a report has numbers that none can have */
 };
 
 /* Why a call was refused. A value that the number does not give is 0. */
@@ -244,7 +248,8 @@ typedef struct tembuzar_mark_answer {
     bool changed;
 } tembuzar_mark_answer;
 
-/* How many marks changed a cell; of a record or a sweep file, how many bytes were written. */
+/* How many marks changed a cell; of a record or a sweep file, how many bytes were written; of a report, how many charts it
+ * has. */
 typedef struct tembuzar_count_answer {
     tembuzar_refusal refusal;
     uint64_t count;
@@ -583,6 +588,41 @@ tembuzar_refusal tembuzar_layer_chart3(tembuzar_map3 map, const double *odds, si
 
 /* A map of two axes has no cuts, and no chart. Refuses with 1, 2, 3, 15. */
 tembuzar_refusal tembuzar_layer_chart2(tembuzar_map2 map, uint16_t *chart, size_t chart_count);
+
+/* ---- Season reports: a table over many charts of equal size ----
+ *
+ * A report is how many charts it is of, which the caller keeps, and a list of twelve numbers for each column, as an array of
+ * tembuzar_report_column has. The count of an answer is how many charts the report has afterwards: it goes into the next call.
+ * Night by night, in runs, or joined from parts, the same charts give the same report. Each call tries all it is given before
+ * it writes a number. */
+typedef struct tembuzar_report_column {
+    uint32_t stood[9]; /* how often each total by maximum overlap stood, 0 to 8 */
+    uint32_t differ;   /* how often the two totals differed */
+    uint32_t maximum;  /* the sum of the totals by maximum overlap, over 512 */
+    uint32_t random;   /* the sum of the totals by random overlap, over 512 */
+} tembuzar_report_column;
+
+/* The most charts that a report can have. */
+#define TEMBUZAR_MOST_CHARTS 4096
+
+/* An empty report of so many columns: every number becomes 0, and the count is 0. Refuses with 19: report has not 12 numbers
+ * for each column. */
+tembuzar_count_answer tembuzar_start_report(uint64_t columns, uint32_t *report, size_t report_count);
+
+/* One chart into a report of so many. Refuses with 19, 20, 21. 19: report has not 12 numbers, and chart not 5, for each of the
+ * same number of columns. 21: chart has a band above 8 or totals that its bands do not give, or report a column whose nine
+ * counts do not add up to charts or another number above 512 * charts. */
+tembuzar_count_answer tembuzar_add_chart(uint64_t charts, uint32_t *report, size_t report_count,
+                                         const uint16_t *chart, size_t chart_count);
+
+/* A run of count charts, one after another in one list, at once. Refuses as tembuzar_add_chart does, and then adds none. */
+tembuzar_count_answer tembuzar_add_charts(uint64_t charts, uint32_t *report, size_t report_count,
+                                          uint64_t count, const uint16_t *run, size_t run_count);
+
+/* Another report, of so many more charts, into a report of so many. Refuses with 19, 20, 21: 19, the two are not of the same
+ * size; 21, as above, of either. */
+tembuzar_count_answer tembuzar_join_reports(uint64_t charts, uint32_t *report, size_t report_count,
+                                            uint64_t more, const uint32_t *other, size_t other_count);
 
 #ifdef __cplusplus
 }

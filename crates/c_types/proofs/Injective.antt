@@ -69,7 +69,10 @@ refusal-back c =
     (cond (eqb n 13) R.Odds
     (cond (eqb n 14) R.Lists
     (cond (eqb n 15) R.Cuts
-    (cond (eqb n 18) R.Profile (R.Column (c .place)))))))))))))))))
+    (cond (eqb n 18) R.Profile
+    (cond (eqb n 17) (R.Column (c .place))
+    (cond (eqb n 19) R.Sizes
+    (cond (eqb n 20) R.Charts R.Chart))))))))))))))))))
 
 -- an answer where the number is 0, else the refusal
 abbrev read-back : {T : Type 0} → T → (Refusal.Refusal → T) → CRefusal → T
@@ -94,6 +97,9 @@ refused-there ok not-ok R.Lists = refl
 refused-there ok not-ok R.Cuts = refl
 refused-there ok not-ok R.Profile = refl
 refused-there ok not-ok (R.Column column) = refl
+refused-there ok not-ok R.Sizes = refl
+refused-there ok not-ok R.Charts = refl
+refused-there ok not-ok R.Chart = refl
 
 abbrev mark-back : CMarkAnswer → Mark.MarkAnswer
 mark-back c = read-back (Mark.the-variants.Changed (c .changed)) Mark.the-variants.Refused (c .refusal)

@@ -43,7 +43,7 @@ abbrev pub chartValues : List ℤ → CRefusal
 chartValues [] = plain 17
 chartValues (column ∷ more) = inChart (natAbs column)
 
--- 10 to 12: "offset of the field", "bytes needed", "with its offset"; 13 to 15 and 18 have no values
+-- 10 to 12: "offset of the field", "bytes needed", "with its offset"; 13 to 15 and 18 to 21 have no values
 abbrev pub recordValues : ℕ → List ℤ → CRefusal
 recordValues number [] = plain number
 recordValues number (bytes ∷ more) = inRecord number (natAbs bytes)

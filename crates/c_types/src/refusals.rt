@@ -138,5 +138,8 @@ pub fn refusal_to_c(refusal: Refusal) -> CRefusal
         Refusal::Cuts => bare(15),
         Refusal::Profile => bare(18),
         Refusal::Column { column } => in_chart(column),
+        Refusal::Sizes => bare(19),
+        Refusal::Charts => bare(20),
+        Refusal::Chart => bare(21),
     }
 }

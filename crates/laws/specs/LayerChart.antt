@@ -1,8 +1,9 @@
 -- The layer chart: what its numbers can be, and what each depends on. `Overlap` has the two totals side by side, `Columns` a column and the whole chart,
--- `Limits` the limits as decimals, `Examples` a chart computed. Definitions only.
+-- `Limits` the limits as decimals, `Order` that more odds give no lower grade, `Examples` a chart computed. Definitions only.
 pub mod Overlap
 pub mod Columns
 pub mod Limits
+pub mod Order
 pub mod Examples
 use Prim.Native.Nat.{ℕ, _+_, _*_, _≤_, _<_}
 use mathlib.Core.Path.{_≡_}
@@ -10,7 +11,7 @@ use mathlib.Core.Bool.{Bool, _&&_, _||_}
 use mathlib.Core.List.{List}
 use lib.Dec.{T, eqb}
 use lib.ListN.{length, getD, take, drop}
-use lib.Ieee.{Float, nan}
+use lib.Ieee.{Float, nan, le}
 use Rattle.rules.specs.LayerChart.{Cuts, goodCuts, eighths, bandCover, maximumOverlap, randomOverlap, columnChart, chartOf}
 
 -- two bands at least are clear, or one is overcast
@@ -31,6 +32,10 @@ OverlapsCompared = (a b c : ℕ) → a ≤ 8 → b ≤ 8 → c ≤ 8 → Overlap
 abbrev pub AgreeOn : ℕ → ℕ → ℕ → List Float → List Float → Type 0
 AgreeOn columns layers column odds other =
     (z : ℕ) → z < layers → getD odds (column + z * columns) nan ≡ getD other (column + z * columns) nan
+
+-- a cell with more odds has no lower grade
+abbrev pub MoreOdds : Type 0
+MoreOdds = (ceiling x y : Float) → T (le x y) → eighths ceiling x ≤ eighths ceiling y
 
 pub record ChartLaws : Type 0 where
   -- No grade is above 8, a cell's or a band's.

@@ -13,3 +13,4 @@ pub mod FiguresToTestOn
 pub mod ManySamples
 pub mod VerticalBeam
 pub mod LayerChart
+pub mod SeasonReport

@@ -81,6 +81,17 @@ outsideProfile = record { number = 18; values = [] }
 abbrev pub nanColumn : ℕ → Refusal
 nanColumn column = record { number = 17; values = pos column ∷ [] }
 
+-- document 02, request 12: "19 for unequal sizes, 20 past the limit, 21 for a chart with a band above 8 or totals its bands don't give, or a report column
+-- whose nine counts don't add up to its charts or whose other numbers exceed 512 a chart"
+abbrev pub unequalSizes : Refusal
+unequalSizes = record { number = 19; values = [] }
+
+abbrev pub tooManyCharts : Refusal
+tooManyCharts = record { number = 20; values = [] }
+
+abbrev pub badChart : Refusal
+badChart = record { number = 21; values = [] }
+
 -- an answer: what was asked for, or the refusal
 pub data Answer (A : Type 0) : Type 0 where
   given : A → Answer A

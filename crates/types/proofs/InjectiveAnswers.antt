@@ -51,7 +51,10 @@ refusal-back r =
     (cond (eqb n 13) R.Odds
     (cond (eqb n 14) R.Lists
     (cond (eqb n 15) R.Cuts
-    (cond (eqb n 18) R.Profile (R.Column (value r 0)))))))))))))))))
+    (cond (eqb n 18) R.Profile
+    (cond (eqb n 17) (R.Column (value r 0))
+    (cond (eqb n 19) R.Sizes
+    (cond (eqb n 20) R.Charts R.Chart))))))))))))))))))
 
 pub refusal-there : (r : Refusal.Refusal) → refusal-back (refusalOf r) ≡ r
 unfolding refusal-back value
@@ -73,6 +76,9 @@ refusal-there R.Lists = refl
 refusal-there R.Cuts = refl
 refusal-there R.Profile = refl
 refusal-there (R.Column column) = refl
+refusal-there R.Sizes = refl
+refusal-there R.Charts = refl
+refusal-there R.Chart = refl
 
 pub refusal-injective : Injective refusalOf
 refusal-injective = of-back refusalOf refusal-back refusal-there

@@ -3,6 +3,7 @@ use Rattle.rules.specs.RefusalNumbers as Paper
 use Rattle.types.specs.declared.refusal.Refusal as Code
 use Rattle.types.specs.declared.refusal.Refusal.the-variants.{DimensionTooSmall, CapacityOverflow, Model, Buffer, OutOfBounds}
 use Rattle.types.specs.declared.refusal.Refusal.the-variants.{NonFiniteCoordinate, Ray, RayInList, Beams, Frame, Record, Room, Sweep, Odds, Lists, Cuts, Profile, Column}
+use Rattle.types.specs.declared.refusal.Refusal.the-variants.{Sizes, Charts, Chart}
 
 abbrev pub refusalOf : Code.Refusal → Paper.Refusal
 refusalOf (DimensionTooSmall axis extent) = Paper.dimensionTooSmall axis extent
@@ -23,3 +24,6 @@ refusalOf Lists = Paper.unequalLists
 refusalOf Cuts = Paper.badCuts
 refusalOf Profile = Paper.outsideProfile
 refusalOf (Column column) = Paper.nanColumn column
+refusalOf Sizes = Paper.unequalSizes
+refusalOf Charts = Paper.tooManyCharts
+refusalOf Chart = Paper.badChart

@@ -58,4 +58,10 @@ pub enum Refusal {
     Column {
         column: u64,
     },
+    // A report, a chart or a second report is not of the size that it has to be.
+    Sizes,
+    // A report would have more charts than it can.
+    Charts,
+    // A chart or a report that cannot be one.
+    Chart,
 }

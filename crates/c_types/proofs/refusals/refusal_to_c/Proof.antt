@@ -113,6 +113,24 @@ enum-known-refusal-8 c = search needs
 in-chart-requires : tie.Need-in-chart-requires
 in-chart-requires c κs = search needs
 
+enum-told-11 : tie.Need-enum-told-11
+enum-told-11 c = search needs
+
+bare-requires-11 : tie.Need-bare-requires-11
+bare-requires-11 c κs = search needs
+
+enum-told-12 : tie.Need-enum-told-12
+enum-told-12 c = search needs
+
+bare-requires-12 : tie.Need-bare-requires-12
+bare-requires-12 c κs = search needs
+
+enum-told-13 : tie.Need-enum-told-13
+enum-told-13 c = search needs
+
+bare-requires-13 : tie.Need-bare-requires-13
+bare-requires-13 c κs = search needs
+
 returns : tie.Need-returns
 returns c = simp (c .on-grid .ensures, c .before .before .refusal .given .1)
 
@@ -169,6 +187,15 @@ returns-17 c = simp (c .bare10 .ensures, c .before .enum-told10 .given .1)
 returns-18 : tie.Need-returns-18
 returns-18 c = simp (c .in-chart .ensures, c .before .before .refusal8 .given .1)
 
+returns-19 : tie.Need-returns-19
+returns-19 c = simp (c .bare11 .ensures, c .before .enum-told11 .given .1)
+
+returns-20 : tie.Need-returns-20
+returns-20 c = simp (c .bare12 .ensures, c .before .enum-told12 .given .1)
+
+returns-21 : tie.Need-returns-21
+returns-21 c = simp (c .bare13 .ensures, c .before .enum-told13 .given .1)
+
 pub refusal-to-c-spec : {M : Type 1} → statement M
 refusal-to-c-spec =
     tie.close
@@ -209,6 +236,12 @@ refusal-to-c-spec =
     bare-requires-10
     enum-known-refusal-8
     in-chart-requires
+    enum-told-11
+    bare-requires-11
+    enum-told-12
+    bare-requires-12
+    enum-told-13
+    bare-requires-13
     returns
     returns-2
     returns-3
@@ -226,4 +259,7 @@ refusal-to-c-spec =
     returns-15
     returns-16
     returns-17
-    returns-18)
+    returns-18
+    returns-19
+    returns-20
+    returns-21)

@@ -20,35 +20,33 @@ abbrev μ-loop : tie.MeasureT-loop
 loop-holds : tie.Need-loop-holds Inv-loop μ-loop
 loop-holds c = (omega arith, refl)
 
-mul-x : tie.Need-mul-x Inv-loop μ-loop
-mul-x c =
+-- the next cell is one of the list's
+place : (c : tie.In-loop Inv-loop μ-loop) → let a = c .before .before .args in a .column + c .before .loop .z * a .columns < length (now (a .odds))
+place c =
     let start = c .before .before in
     let a = start .args in
-    let h = in-list (a .columns) (a .column) (c .before .loop .z) (a .layers) (length (now (a .odds))) (start .pre .0) (c .loop-test .taken) (start .pre .1) in
-    let good = start .good in
+    in-list (a .columns) (a .column) (c .before .loop .z) (a .layers) (length (now (a .odds))) (start .pre .0) (c .loop-test .taken) (start .pre .1)
+
+mul-x : tie.Need-mul-x Inv-loop μ-loop
+mul-x c =
+    let h = place c in
+    let good = c .before .before .good in
     omega arith
 
 add-x : tie.Need-add-x Inv-loop μ-loop
 add-x c =
-    let start = c .before .before in
-    let a = start .args in
-    let h = in-list (a .columns) (a .column) (c .before .loop .z) (a .layers) (length (now (a .odds))) (start .pre .0) (c .loop-test .taken) (start .pre .1) in
-    let good = start .good in
+    let h = place c in
+    let good = c .before .before .good in
     omega arith
 
 mul-x-2 : tie.Need-mul-x-2 Inv-loop μ-loop
 mul-x-2 c =
-    let start = c .before .before in
-    let a = start .args in
-    let h = in-list (a .columns) (a .column) (c .before .loop .z) (a .layers) (length (now (a .odds))) (start .pre .0) (c .loop-test .taken) (start .pre .1) in
-    let good = start .good in
+    let h = place c in
+    let good = c .before .before .good in
     omega arith
 
 shared-slice-read-x : tie.Need-shared-slice-read-x Inv-loop μ-loop
-shared-slice-read-x c =
-    let start = c .before .before .before in
-    let a = start .args in
-    in-list (a .columns) (a .column) (c .before .before .loop .z) (a .layers) (length (now (a .odds))) (start .pre .0) (c .before .loop-test .taken) (start .pre .1)
+shared-slice-read-x c = place (c .before)
 
 returns : tie.Need-returns Inv-loop μ-loop
 unfolding anyNan

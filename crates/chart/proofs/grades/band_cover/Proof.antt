@@ -28,47 +28,35 @@ loop-holds c =
 sub-z : tie.Need-sub-z Inv-loop μ-loop
 sub-z c = omega arith
 
-mul-cell-eighths : tie.Need-mul-cell-eighths Inv-loop μ-loop
-mul-cell-eighths c =
+-- the next cell down is one of the list's
+place : (c : tie.In-loop Inv-loop μ-loop) → let a = c .before .before .before .args in a .column + (c .before .loop .z - 1) * a .columns < length (now (a .odds))
+place c =
     let start = c .before .before .before in
     let a = start .args in
-    let z = c .before .loop .z in
     let more = c .loop-test .taken in
     let top = c .before .loop .inv .1 in
-    let h = in-list (a .columns) (a .column) (z - 1) (a .to) (length (now (a .odds))) (start .pre .0) (omega arith) (start .pre .1 .1) in
-    let good = start .good in
+    in-list (a .columns) (a .column) (c .before .loop .z - 1) (a .to) (length (now (a .odds))) (start .pre .0) (omega arith) (start .pre .1 .1)
+
+mul-cell-eighths : tie.Need-mul-cell-eighths Inv-loop μ-loop
+mul-cell-eighths c =
+    let h = place c in
+    let good = c .before .before .before .good in
     omega arith
 
 add-cell-eighths : tie.Need-add-cell-eighths Inv-loop μ-loop
 add-cell-eighths c =
-    let start = c .before .before .before in
-    let a = start .args in
-    let z = c .before .loop .z in
-    let more = c .loop-test .taken in
-    let top = c .before .loop .inv .1 in
-    let h = in-list (a .columns) (a .column) (z - 1) (a .to) (length (now (a .odds))) (start .pre .0) (omega arith) (start .pre .1 .1) in
-    let good = start .good in
+    let h = place c in
+    let good = c .before .before .before .good in
     omega arith
 
 mul-cell-eighths-2 : tie.Need-mul-cell-eighths-2 Inv-loop μ-loop
 mul-cell-eighths-2 c =
-    let start = c .before .before .before in
-    let a = start .args in
-    let z = c .before .loop .z in
-    let more = c .loop-test .taken in
-    let top = c .before .loop .inv .1 in
-    let h = in-list (a .columns) (a .column) (z - 1) (a .to) (length (now (a .odds))) (start .pre .0) (omega arith) (start .pre .1 .1) in
-    let good = start .good in
+    let h = place c in
+    let good = c .before .before .before .good in
     omega arith
 
 shared-slice-read-cell-eighths : tie.Need-shared-slice-read-cell-eighths Inv-loop μ-loop
-shared-slice-read-cell-eighths c =
-    let start = c .before .before .before .before in
-    let a = start .args in
-    let z = c .before .before .loop .z in
-    let more = c .before .loop-test .taken in
-    let top = c .before .before .loop .inv .1 in
-    in-list (a .columns) (a .column) (z - 1) (a .to) (length (now (a .odds))) (start .pre .0) (omega arith) (start .pre .1 .1)
+shared-slice-read-cell-eighths c = place (c .before)
 
 cell-eighths-requires : tie.Need-cell-eighths-requires Inv-loop μ-loop
 cell-eighths-requires c κs = search needs

@@ -6,7 +6,7 @@ use lib.ListN.{length}
 use borrow.Author.Needs.{needs}
 use denote.Ref.{now}
 use Rattle.rules.specs.Floats.{zeroF}
-use Rattle.marks.proofs.Filling.{Filled, none-filled, one-more, all-filled}
+use Rattle.laws.specs.Filling.{Filled, none-filled, one-more, all-filled}
 use Rattle.laws.specs.Literals.{zero-is}
 use Rattle.marks.proofs.frames.clear_odds.Statement.{statement}
 use Rattle.marks.proofs.frames.clear_odds.Tie as tie

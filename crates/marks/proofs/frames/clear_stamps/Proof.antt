@@ -5,7 +5,7 @@ use native.Mathlib.Omega.{arith}
 use lib.ListN.{length}
 use borrow.Author.Needs.{needs}
 use denote.Ref.{now}
-use Rattle.marks.proofs.Filling.{Filled, none-filled, one-more, all-filled}
+use Rattle.laws.specs.Filling.{Filled, none-filled, one-more, all-filled}
 use Rattle.marks.proofs.frames.clear_stamps.Statement.{statement}
 use Rattle.marks.proofs.frames.clear_stamps.Tie as tie
 

@@ -1,7 +1,7 @@
 -- Dividing tells whether there are so many numbers for each point, and cannot wrap.
 use mathlib.Core.Path.{sym}
 use borrow.Author.Needs.{needs}
-use Rattle.sample_list.proofs.Dividing.{quotient-decides, left-over}
+use Rattle.laws.specs.Dividing.{quotient-decides, left-over}
 use Rattle.sample_list.proofs.shape.each.Statement.{statement}
 use Rattle.sample_list.proofs.shape.each.Tie as tie
 

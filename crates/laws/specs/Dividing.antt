@@ -1,4 +1,4 @@
--- Dividing tells whether there are so many numbers for each point. Assumes nothing.
+-- Dividing tells whether there are so many numbers for each of so many things, as points or charts. Assumes nothing.
 use Prim.Native.Nat.{ℕ, _*_, _/_, _%_, _<_}
 use mathlib.Core.Bool.{Bool, true, false}
 use mathlib.Core.Path.{_≡_, refl, sym, ap, _∙_}

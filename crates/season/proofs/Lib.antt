@@ -1,0 +1,4 @@
+pub mod Joining
+pub mod Night
+pub mod Running
+pub mod Testing
