@@ -9,7 +9,7 @@ use lib.Ieee.{Float}
 use lib.ListN.{length, take, drop, length-append, length-drop}
 use lib.Seq.{sets, sets-eq, take-at, drop-append-add, drop-drop}
 use Rattle.rules.specs.LayerChart.{Cuts, columnChart, chartOf}
-use Rattle.laws.specs.LayerChart.Columns.{chart-length}
+use Rattle.chart.proofs.Bounds.{chart-length}
 
 put-next : (written five chart₀ : List ℕ) (k : ℕ) → length written ≡ 5 * k → length five ≡ 5 → 5 * k + 5 ≤ length chart₀
     → sets (written ++ drop (5 * k) chart₀) (5 * k) five ≡ written ++ five ++ drop (5 * k + 5) chart₀

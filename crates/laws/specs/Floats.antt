@@ -9,3 +9,4 @@ pub mod Zeros
 pub mod Differences
 pub mod Quotients
 pub mod Inside
+pub mod Nans

@@ -1,19 +1,7 @@
--- Theorems about the rules, of every format and any number of axes. `CountBound`, `WholeSample`, `DemandThree` and `MapRecord` are laws of
--- document 01, `SweepFile`, `FloorCost`, `HandCorrections`, `CheckedSet`, `OffAxes`, `ManySamples`, `VerticalBeam`, `LayerChart` and `SeasonReport` of change requests 2, 9, 10, 3, 1, 4, 11, 8 and 12, each with its statement, and the steps of its proof in the folder of its name. The others are what the code's proofs share.
+-- What the proofs of code cite, over the format and the axes: two axes and three, and two widths of floats, share every law here. What no proof of code
+-- cites stands in `theorems`, above the code.
 pub mod Floats
-pub mod CountBound
-pub mod WholeSample
-pub mod DemandThree
-pub mod FloorCost
-pub mod HandCorrections
-pub mod CheckedSet
-pub mod OffAxes
-pub mod ManySamples
-pub mod LayerChart
-pub mod SeasonReport
-pub mod MapRecord
-pub mod SweepFile
-pub mod VerticalBeam
+pub mod Answers
 pub mod Checks
 pub mod ModelBounds
 pub mod Bands
@@ -22,7 +10,6 @@ pub mod LineSteps
 pub mod Following
 pub mod OnTheMap
 pub mod MarkLists
-pub mod FlatList
 pub mod Room
 pub mod Dividing
 pub mod Filling

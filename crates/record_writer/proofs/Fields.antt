@@ -14,7 +14,7 @@ use Rattle.rules.specs.RefusalNumbers.{Refusal, Answer, given, refused, andThen
 use Rattle.rules.specs.RefusalNumbers.Entries.{Outcome, writeAnswer}
 use Rattle.rules.specs.TheGridAndItsBounds.{Pair, Model, Head, plainModel, cells, mostCells}
 use Rattle.rules.specs.MapRecord.{littleEndian, field, fieldSize, floatBytes, extentBytes, rowsBytes, rowsChecked, rowsOffset, recordBytes, recordSize, roomFor, writable, rowWidth, rowCount, equalPairs, pairsChecked}
-use Rattle.laws.specs.MapRecord.Rows.{rows-by-ceiling}
+use Rattle.record_writer.proofs.Ceilings.{rows-by-ceiling}
 use Rattle.laws.specs.Checks.{InBounds}
 use Rattle.fields.proofs.Bytes.{length-little}
 use Rattle.fields.proofs.Stores.{then-run}

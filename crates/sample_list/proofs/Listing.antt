@@ -11,7 +11,7 @@ use lib.ListN.{length, take, drop, set, length-drop, length-append, length-set, 
 use lib.Seq.{take-add, drop-drop, take-all, take-at, drop-at, take-suc-set, sets-eq, length-sets, length-take-le}
 use Rattle.rules.specs.Coordinates.{Sample, sample}
 use Rattle.rules.specs.ManySamples.{slotOf, foundOf, slotsAll, foundAll, sampledAll}
-use Rattle.laws.specs.ManySamples.Sizes.{slot-size}
+use Rattle.sample_list.proofs.Counts.{slot-size}
 use Rattle.sample_list.specs.Slots.{slotsOf, stored}
 
 -- ---- one slot

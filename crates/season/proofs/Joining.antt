@@ -7,7 +7,7 @@ use native.Mathlib.Omega.{arith}
 use lib.ListN.{length, getD, take, drop, set, length-append, length-drop}
 use lib.Seq.{take-suc, take-all, drop-cons, drop-length, set-at, getD-at, append-snoc, length-take-le}
 use Rattle.rules.specs.SeasonReport.{plus}
-use Rattle.laws.specs.SeasonReport.Sums.{plus-length, plus-append}
+use Rattle.season.proofs.Sums.{plus-length, plus-append}
 
 module _ (report₀ other : List ℕ) where
   abbrev sums : ℕ → List ℕ

@@ -7,11 +7,11 @@ use native.Mathlib.Nat.{mul-assoc, mul-add, mul-one, mul-le-mul-left}
 use native.Mathlib.Omega.{arith}
 use lib.Dec.{T}
 use lib.ListN.{length, getD, drop, replicate}
+use lib.Ieee.Bits.{is-true}
 use Rattle.rules.specs.SeasonReport.{mostCharts, night, plus, runReport, goodColumns, goodReport}
-use Rattle.laws.specs.SeasonReport.Sums.{plus-assoc, plus-length, plus-zeros}
-use Rattle.laws.specs.SeasonReport.Runs.{night-length, run-length, run-next}
-use Rattle.laws.specs.SeasonReport.Good.{all-proper, all-good, added-sound, sound-most}
-use Rattle.laws.specs.SeasonReport.Accepted.{holds}
+use Rattle.season.proofs.Sums.{plus-assoc, plus-length, plus-zeros}
+use Rattle.season.proofs.Runs.{night-length, run-length, run-next}
+use Rattle.season.proofs.Good.{all-proper, all-good, added-sound, sound-most}
 use Rattle.season.specs.Reports.{Roomy}
 
 module _ (charts : ℕ) (report₀ : List ℕ) (columns count : ℕ) (run : List ℕ) where
@@ -36,7 +36,7 @@ module _ (charts : ℕ) (report₀ : List ℕ) (columns count : ℕ) (run : List
 
     pub good-so-far : goodColumns run (columns * n + columns) ≡ true
     good-so-far =
-        holds (goodColumns run (columns * n + columns))
+        is-true (goodColumns run (columns * n + columns))
         (all-good run (columns * n + columns) (λ k h. all-proper run (columns * count) (t .run-good) k (omega (arith, columns-fit))))
 
     pub room : Roomy (plus report₀ (runReport columns n run)) 0

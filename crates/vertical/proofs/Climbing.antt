@@ -16,11 +16,10 @@ use Rattle.rules.specs.VerticalBeam.{Vertical, inProfile, columnPlace, columnMa
 use Rattle.laws.specs.Checks.{Ready}
 use Rattle.laws.specs.Places.{place-lt}
 use Rattle.laws.specs.Room.{room}
-use Rattle.laws.specs.VerticalBeam.Column.{on-grid}
-use Rattle.laws.specs.VerticalBeam.Proof.{Inside, inside-of}
 use Rattle.beam.specs.Applying.{Applied, one}
 use Rattle.beam.proofs.Applying.{both-applied}
 use Rattle.beam.proofs.Walking.{still-ready}
+use Rattle.vertical.proofs.InProfile.{Inside, inside-of, on-grid}
 
 -- ---- a beam in the profile, by the code's test
 pub inside : (es : List ℕ) (b : Vertical) → inProfile es b ≡ true → Inside es b
@@ -41,13 +40,13 @@ next-place ex ey ez x y z at e = ap (λ (i : ℕ). i + ex * ey) e ∙ next-layer
 pub place-below : (ex ey ez x y z at : ℕ) → at ≡ columnPlace (ex ∷ ey ∷ ez ∷ []) x y z → x < ex → y < ey → z < ez → at < cells (ex ∷ ey ∷ ez ∷ [])
 place-below ex ey ez x y z at e hx hy hz =
     subst (λ (i : ℕ). i < cells (ex ∷ ey ∷ ez ∷ [])) (sym e)
-    (place-lt (ex ∷ ey ∷ ez ∷ []) _ (columnPlace (ex ∷ ey ∷ ez ∷ []) x y z) refl (on-grid ex ey ez true x y hx hy z hz))
+    (place-lt (ex ∷ ey ∷ ez ∷ []) _ (columnPlace (ex ∷ ey ∷ ez ∷ []) x y z) refl (on-grid ex ey ez x y z hx hy hz))
 
 pub place-is : (ex ey ez x y z at : ℕ) → x < ex → y < ey → z < ez
     → flatIndex (ex ∷ ey ∷ ez ∷ []) (pos x ∷ pos y ∷ pos z ∷ []) ≡ given at
     → at ≡ columnPlace (ex ∷ ey ∷ ez ∷ []) x y z
 place-is ex ey ez x y z at hx hy hz e =
-    let g : given at ≡ given (columnPlace (ex ∷ ey ∷ ez ∷ []) x y z) = sym e ∙ on-grid ex ey ez true x y hx hy z hz in
+    let g : given at ≡ given (columnPlace (ex ∷ ey ∷ ez ∷ []) x y z) = sym e ∙ on-grid ex ey ez x y z hx hy hz in
     cc
 
 -- ---- the marks

@@ -1,1 +1,2 @@
+pub mod InProfile
 pub mod Climbing

@@ -9,7 +9,7 @@ use lib.ListN.{length, drop}
 use denote.Ref.{now}
 use borrow.Author.Needs.{needs}
 use Rattle.rules.specs.LayerChart.{bandCover, columnChart, chartOf}
-use Rattle.laws.specs.LayerChart.Columns.{cover-most, cuts-apart}
+use Rattle.chart.proofs.Bounds.{cover-most, cuts-apart}
 use Rattle.chart.specs.Charts.{cutsOf}
 use Rattle.chart.proofs.Filling.{Written, written-size, one-more}
 use Rattle.chart.proofs.columns.fill.Statement.{statement}

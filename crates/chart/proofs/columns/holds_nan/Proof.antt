@@ -5,7 +5,7 @@ use native.Mathlib.Omega.{arith}
 use lib.ListN.{length}
 use denote.Ref.{now}
 use Rattle.rules.specs.LayerChart.{anyNan, cellsBetween}
-use Rattle.laws.specs.CheckedSet.{unlike-itself}
+use Rattle.laws.specs.Floats.Nans.{unlike-itself}
 use Rattle.chart.proofs.Stack.{lowest, none-left, in-list}
 use Rattle.chart.proofs.columns.holds_nan.Statement.{statement}
 use Rattle.chart.proofs.columns.holds_nan.Tie as tie

@@ -6,8 +6,8 @@ use native.Mathlib.Omega.{arith}
 use lib.Ieee.{Float}
 use borrow.Author.Needs.{needs}
 use Rattle.rules.specs.LayerChart.{reaches, reached, eighths}
-use Rattle.laws.specs.LayerChart.Columns.{reaches-most}
-use Rattle.laws.specs.LayerChart.Limits.{limits-are}
+use Rattle.chart.proofs.Bounds.{reaches-most}
+use Rattle.chart.proofs.Limits.{limits-are}
 use Rattle.chart.proofs.grades.cell_eighths.Statement.{statement}
 use Rattle.chart.proofs.grades.cell_eighths.Tie as tie
 

@@ -1,7 +1,7 @@
 -- The place, then the test that only NaN passes, then the plain set.
 use mathlib.Core.Path.{refl, ap}
 use borrow.Author.Needs.{needs}
-use Rattle.laws.specs.CheckedSet.{unlike-itself}
+use Rattle.laws.specs.Floats.Nans.{unlike-itself}
 use Rattle.places.specs.Places.{placeOf}
 use Rattle.marks.proofs.cells.set_checked_at.Statement.{statement}
 use Rattle.marks.proofs.cells.set_checked_at.Tie as tie

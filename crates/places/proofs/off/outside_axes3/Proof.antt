@@ -7,7 +7,7 @@ use mathlib.Core.Bool.{not}
 use lib.Ieee.{binary64}
 use lib.Ieee.Scale.{finite}
 use Rattle.rules.specs.Coordinates.{within, outsideAxes}
-use Rattle.laws.specs.OffAxes.{coordinate-most}
+use Rattle.places.proofs.Sets.{coordinate-most}
 use Rattle.places.proofs.off.outside_axes3.Statement.{statement}
 use Rattle.places.proofs.off.outside_axes3.Tie as tie
 

@@ -5,7 +5,7 @@ use native.Mathlib.Omega.{arith}
 use lib.ListN.{length}
 use denote.Ref.{now}
 use Rattle.rules.specs.SeasonReport.{plus, runReport}
-use Rattle.laws.specs.SeasonReport.Sums.{plus-length}
+use Rattle.season.proofs.Sums.{plus-length}
 use Rattle.season.proofs.Running.{Tried, no-nights, columns-fit, run-fits, good-so-far, room, next-night}
 use Rattle.season.proofs.adding.add_run.Statement.{statement}
 use Rattle.season.proofs.adding.add_run.Tie as tie

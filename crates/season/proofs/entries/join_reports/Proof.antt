@@ -6,7 +6,7 @@ use borrow.Author.Tests.{eqb-true, leb-true}
 use lib.ListN.{length, getD}
 use denote.Ref.{now}
 use Rattle.rules.specs.SeasonReport.{joinReportsEntry}
-use Rattle.laws.specs.SeasonReport.Good.{all-sound, sound-most}
+use Rattle.season.proofs.Good.{all-sound, sound-most}
 use Rattle.season.proofs.Testing.{both}
 use borrow.Author.Needs.{needs}
 use Rattle.season.proofs.entries.join_reports.Statement.{statement}

@@ -1,0 +1,91 @@
+-- Demand 3 said of the entries: what `begin_scan` and then a slice of beams, or `update_scan`, answer and leave, in a sweep that meets the premises,
+-- is the sweep that the theorem speaks of. So its conclusions are about the lent lists afterwards. Assumes nothing.
+use Prim.Native.Nat.{ℕ, suc, _+_, _≤_, _<_}
+use mathlib.Core.Bool.{Bool, true, false, cond, not, _&&_}
+use mathlib.Core.List.{List, [], _∷_}
+use mathlib.Core.Option.{Option, none}
+use mathlib.Core.Path.{_≡_, refl, sym, ap, _∙_}
+use native.Mathlib.Omega.{arith}
+use lib.Dec.{T, ltb, leb, eqb, leb→le, ltb→lt}
+use lib.Ieee.{Float, Format}
+use lib.Ieee.Fits.{and-l, and-r}
+use lib.ListN.{length, length-replicate, replicate}
+use borrow.Author.Tests.{le-ltb, lt-ltb, le-leb, leb-false}
+use Rattle.rules.specs.RefusalNumbers.{Refusal, given}
+use Rattle.rules.specs.RefusalNumbers.Entries.{firstTooSmall, extentsRefusal, headRefusal, Uses, Outcome, ofIntegrated, usesOf, begin-scan, beams, beginScanEntry, updateScanEntry, updateBeamsEntry}
+use Rattle.rules.specs.TheGridAndItsBounds.{Model, Head, Grid, leastExtent, allAtLeast, fitsCapacity, extentsInBounds, bounded, cutsInBounds, onePerCell}
+use Rattle.rules.specs.MarksAndFrames.{highestFrame, openFrame, openedFrame, openedStamps}
+use Rattle.rules.specs.OneBeam.{Beam, flatShape, beamsOf}
+use Rattle.theorems.specs.DemandThree.{Sweep, Settled, frameOpened, gridOpened, sweep}
+use Rattle.theorems.specs.DemandThree.Proof.{demand-three}
+use Rattle.theorems.specs.FlatList.{is-true, flat-as-structs}
+
+-- the head of a map with its sweep opened
+abbrev pub headOpened : Head → Head
+headOpened h = record { extents = h .extents; model = h .model; frame = frameOpened h }
+
+none-too-small : (k : ℕ) (es : List ℕ) → T (allAtLeast leastExtent es) → firstTooSmall k es ≡ none
+unfolding firstTooSmall allAtLeast
+none-too-small k [] t = refl
+none-too-small k (e ∷ es) t =
+    rw (le-ltb e leastExtent (leb→le leastExtent e (and-l (leb leastExtent e) (allAtLeast leastExtent es) t)))
+    (none-too-small (suc k) es (and-r (leb leastExtent e) (allAtLeast leastExtent es) t))
+
+extents-pass : (es : List ℕ) → T (extentsInBounds es) → extentsRefusal es ≡ none
+unfolding extentsRefusal extentsInBounds
+extents-pass es t =
+    rw (none-too-small 0 es (and-l (allAtLeast leastExtent es) (fitsCapacity es) t), is-true (fitsCapacity es) (and-r (allAtLeast leastExtent es) (fitsCapacity es) t)) refl
+
+-- a frame that was opened is one that a sweep can have
+opened-open : (k : ℕ) → openFrame (openedFrame k) ≡ true
+unfolding openFrame openedFrame
+opened-open k = go (leb highestFrame k) refl
+  where
+    go : (b : Bool) → leb highestFrame k ≡ b → (ltb 0 (cond b 1 (k + 1)) && leb (cond b 1 (k + 1)) highestFrame) ≡ true
+    go true e = refl
+    go false e = let l = leb-false highestFrame k e in rw (lt-ltb 0 (k + 1) (omega arith), le-leb (k + 1) highestFrame (omega arith)) refl
+
+opened-length : (k : ℕ) (stamps : List ℕ) → length (openedStamps k stamps) ≡ length stamps
+unfolding openedStamps
+opened-length k stamps = go (leb highestFrame k)
+  where
+    go : (b : Bool) → length (cond b (replicate (length stamps) 0) stamps) ≡ length stamps
+    go true = length-replicate (length stamps) 0
+    go false = refl
+
+module _ (f : Format) (h : Head) (g : Grid) (bs : List Beam) (s : Sweep f h g bs) where
+  -- `begin_scan` opens the sweep
+  pub begins : beginScanEntry h (g .stamps) ≡ record { answer = given (headOpened h); lent = gridOpened h g .stamps }
+  unfolding beginScanEntry headRefusal
+  begins = rw (extents-pass (h .extents) (s .extents), is-true (onePerCell (h .extents) (length (g .stamps))) (s .stamps-per-cell)) refl
+
+  -- a slice of beams then leaves what the theorem speaks of; the entry tries the cuts too
+  pub integrates : T (cutsInBounds (h .extents) (h .model)) → updateBeamsEntry f (headOpened h) bs (gridOpened h g) ≡ ofIntegrated (sweep f h g bs)
+  unfolding updateBeamsEntry headRefusal
+  integrates cuts =
+      rw (
+        extents-pass (h .extents) (s .extents),
+        is-true (bounded (h .model)) (s .model),
+        is-true (cutsInBounds (h .extents) (h .model)) cuts,
+        is-true (onePerCell (h .extents) (length (g .odds))) (s .odds-per-cell),
+        opened-length (h .frame) (g .stamps),
+        is-true (onePerCell (h .extents) (length (g .stamps))) (s .stamps-per-cell),
+        opened-open (h .frame),
+      )
+      refl
+
+  -- so whatever meets its contract leaves lists of which demand 3 holds
+  pub settles-slice : T (cutsInBounds (h .extents) (h .model)) → (out : Outcome ℕ Grid) → out ≡ updateBeamsEntry f (headOpened h) bs (gridOpened h g)
+      → (out .lent ≡ sweep f h g bs .grid) × Settled f h g bs
+  settles-slice cuts out e = (ap (λ (o : Outcome ℕ Grid). o .lent) (e ∙ integrates cuts), demand-three f h g bs s)
+
+-- the same of `update_scan`, whose flat list is those beams
+module _ (f : Format) (h : Head) (g : Grid) (numbers : List Float) (hits : List ℕ) (s : Sweep f h g (beamsOf (length (h .extents)) numbers hits)) where
+  pub scans : T (cutsInBounds (h .extents) (h .model)) → T (flatShape (length (h .extents)) numbers hits)
+      → updateScanEntry f (headOpened h) numbers hits (gridOpened h g) ≡ ofIntegrated (sweep f h g (beamsOf (length (h .extents)) numbers hits))
+  scans cuts t = flat-as-structs f (headOpened h) numbers hits (gridOpened h g) t ∙ integrates f h g (beamsOf (length (h .extents)) numbers hits) s cuts
+
+  pub settles : T (cutsInBounds (h .extents) (h .model)) → T (flatShape (length (h .extents)) numbers hits) → (out : Outcome ℕ Grid) → out ≡ updateScanEntry f (headOpened h) numbers hits (gridOpened h g)
+      → (out .lent ≡ sweep f h g (beamsOf (length (h .extents)) numbers hits) .grid) × Settled f h g (beamsOf (length (h .extents)) numbers hits)
+  settles cuts t out e =
+      settles-slice f h g (beamsOf (length (h .extents)) numbers hits) s cuts out (e ∙ flat-as-structs f (headOpened h) numbers hits (gridOpened h g) t)

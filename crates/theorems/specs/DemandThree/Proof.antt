@@ -1,0 +1,197 @@
+-- Demand 3, proved of the rules: in every format, on any number of axes, for every list of beams. Assumes nothing.
+use mathlib.Core.Path.{_≡_, refl, sym, ap, ap₂, _∙_, subst}
+use mathlib.Core.Logic.{_⊎_, inl, inr}
+use mathlib.Core.List.{List, _∷_, List·Memᴰ, List·Memᴰ·head, List·Memᴰ·tail, List·Memᴰ·cases-cons}
+use mathlib.Core.List.{List·Permᴰ, List·Permᴰ·nil, List·Permᴰ·cons, List·Permᴰ·swap, List·Permᴰ·trans, Permᴰ·symm}
+use mathlib.Core.Bool.{Bool, true, false, cond}
+use Prim.Native.Nat.{ℕ, _<_}
+use native.Mathlib.Omega.{arith}
+use lib.Dec.{T, leb, eqb→eq}
+use lib.ListN.{length, getD, replicate, length-replicate}
+use lib.Seq.{ext-getD}
+use lib.Ieee.{Float, nan, Format}
+use Rattle.rules.specs.TheGridAndItsBounds.{Head, Grid, cells, onePerCell}
+use Rattle.rules.specs.MarksAndFrames.{Cell, Steps, Mark, stepsAt, stampOf, freed, occupy, cellAt, openedStamps, highestFrame}
+use Rattle.rules.specs.OneBeam.{Beam}
+use Rattle.laws.specs.Floats.Tests.{bool-ext}
+use Rattle.theorems.specs.DemandThree.TakeBack.{alone}
+use Rattle.theorems.specs.DemandThree.Orders.{runs, anyCloud, anyMark, kindsOn, Sized, cleared, clouded, restored, marked-sized, marked-cell, back-step, no-marks}
+use Rattle.theorems.specs.DemandThree.Orders.{clear-marks, cloud-marks, stamp-is, odds-are}
+use Rattle.theorems.specs.DemandThree.Beams.{Taken, allMarks, given-a-count, grid-is, makes-mem, mem-makes, makes-same, cloud-mem, mark-mem, mem-cloud, mem-mark}
+use Rattle.theorems.specs.DemandThree.OneCell.{exact}
+use Rattle.theorems.specs.DemandThree.{frameOpened, gridOpened, sweep, Hit, Touched, SameBeams, Sweep, Multiples, cloudAlone, cloudAfterClear, Settled}
+
+-- ---- permutations and repeats are the same beams
+perm-mem : {bs cs : List Beam} (b : Beam) → List·Permᴰ bs cs → List·Memᴰ b bs → List·Memᴰ b cs
+perm-mem b List·Permᴰ·nil d = d
+perm-mem b (List·Permᴰ·cons e p) d = elim (List·Memᴰ·cases-cons d) [ inl w ↦ List·Memᴰ·head (w ∙ e) | inr w ↦ List·Memᴰ·tail (perm-mem b p w) ]
+perm-mem b (List·Permᴰ·swap e g) d =
+    elim (List·Memᴰ·cases-cons d) [
+      | inl w ↦ List·Memᴰ·tail (List·Memᴰ·head (w ∙ e))
+      | inr w ↦
+          elim (List·Memᴰ·cases-cons w) [ inl v ↦ List·Memᴰ·head (v ∙ g) | inr v ↦ List·Memᴰ·tail (List·Memᴰ·tail v) ]
+    ]
+perm-mem b (List·Permᴰ·trans p q) d = perm-mem b q (perm-mem b p d)
+
+permuted : (bs cs : List Beam) → List·Permᴰ bs cs → SameBeams bs cs
+permuted bs cs p = record { there = λ b d. perm-mem b p d; back = λ b d. perm-mem b (Permᴰ·symm p) d }
+
+repeated : (b : Beam) (bs : List Beam) → List·Memᴰ b bs → SameBeams bs (b ∷ bs)
+repeated b bs m =
+    record { there = λ c d. List·Memᴰ·tail d; back = λ c d. elim (List·Memᴰ·cases-cons d) [ inl w ↦ subst (λ (x : Beam). List·Memᴰ x bs) (sym w) m | inr w ↦ w ] }
+
+pub opened-length : (k : ℕ) (stamps : List ℕ) → length (openedStamps k stamps) ≡ length stamps
+unfolding openedStamps
+opened-length k stamps = go (leb highestFrame k)
+  where
+    go : (b : Bool) → length (cond b (replicate (length stamps) 0) stamps) ≡ length stamps
+    go true = length-replicate (length stamps) 0
+    go false = refl
+
+module _ (f : Format) (h : Head) (g : Grid) (bs : List Beam) (p : Sweep f h g bs) where
+  kinds : ℕ → List Beam → List Bool
+  kinds i cs = kindsOn i (allMarks f (h .extents) cs)
+
+  sized : Sized (cells (h .extents)) (gridOpened h g)
+  unfolding onePerCell
+  sized =
+      record {
+        odds = eqb→eq (length (g .odds)) (cells (h .extents)) (p .odds-per-cell);
+        stamps = opened-length (h .frame) (g .stamps) ∙ eqb→eq (length (g .stamps)) (cells (h .extents)) (p .stamps-per-cell);
+      }
+
+  -- each cell after a list of beams
+  cell-after : (cs : List Beam) → Taken f (h .extents) cs → (i : ℕ) → i < cells (h .extents)
+      → cellAt (sweep f h g cs .grid) i ≡ runs f (stepsAt (h .model) i) (frameOpened h) (kinds i cs) (cellAt (gridOpened h g) i)
+  unfolding kinds
+  cell-after cs t i l =
+      ap (λ (x : Grid). cellAt x i) (grid-is f (h .extents) (h .model) (frameOpened h) cs (gridOpened h g) t)
+      ∙ marked-cell f (h .model) (frameOpened h) (allMarks f (h .extents) cs) (gridOpened h g) (cells (h .extents)) i sized l
+
+  after-sized : (cs : List Beam) → Taken f (h .extents) cs → Sized (cells (h .extents)) (sweep f h g cs .grid)
+  after-sized cs t =
+      subst (λ (x : Grid). Sized (cells (h .extents)) x) (sym (grid-is f (h .extents) (h .model) (frameOpened h) cs (gridOpened h g) t))
+      (marked-sized f (h .model) (frameOpened h) (allMarks f (h .extents) cs) (gridOpened h g) (cells (h .extents)) sized)
+
+  -- hit and touched, as tests
+  hit-test : (cs : List Beam) (i : ℕ) → Hit f (h .extents) cs i → T (anyCloud (kinds i cs))
+  unfolding kinds
+  hit-test cs i w = mem-cloud i (allMarks f (h .extents) cs) (makes-mem f (h .extents) cs (record { place = i; occupied = true }) w)
+
+  test-hit : (cs : List Beam) (i : ℕ) → T (anyCloud (kinds i cs)) → Hit f (h .extents) cs i
+  unfolding kinds
+  test-hit cs i t = mem-makes f (h .extents) cs (record { place = i; occupied = true }) (cloud-mem i (allMarks f (h .extents) cs) t)
+
+  touched-test : (cs : List Beam) (i : ℕ) → Touched f (h .extents) cs i → T (anyMark (kinds i cs))
+  unfolding kinds
+  touched-test cs i w = mem-mark i (w .0) (allMarks f (h .extents) cs) (makes-mem f (h .extents) cs (record { place = i; occupied = w .0 }) (w .1))
+
+  test-touched : (cs : List Beam) (i : ℕ) → T (anyMark (kinds i cs)) → Touched f (h .extents) cs i
+  unfolding kinds
+  test-touched cs i t =
+      let r = mark-mem i (allMarks f (h .extents) cs) t in
+      (r .0, mem-makes f (h .extents) cs (record { place = i; occupied = r .0 }) (r .1))
+
+  -- how the cells end
+  clear-cell : (i : ℕ) → i < cells (h .extents) → Touched f (h .extents) bs i → ¬ Hit f (h .extents) bs i
+      → cellAt (sweep f h g bs .grid) i ≡ cleared f (stepsAt (h .model) i) (frameOpened h) (getD (g .odds) i nan)
+  clear-cell i l w z =
+      cell-after bs (p .taken) i l
+      ∙ clear-marks f (stepsAt (h .model) i) (frameOpened h) (cellAt (gridOpened h g) i) (p .unstamped i l) (kinds i bs) (touched-test bs i w) (λ t. z (test-hit bs i t))
+
+  cloud-cell : (i : ℕ) → i < cells (h .extents) → Hit f (h .extents) bs i
+      → (cellAt (sweep f h g bs .grid) i ≡ clouded f (stepsAt (h .model) i) (frameOpened h) (getD (g .odds) i nan))
+      ⊎ (cellAt (sweep f h g bs .grid) i ≡ restored f (stepsAt (h .model) i) (frameOpened h) (freed f (stepsAt (h .model) i) (getD (g .odds) i nan)))
+  cloud-cell i l w =
+      go (cloud-marks f (stepsAt (h .model) i) (frameOpened h) (cellAt (gridOpened h g) i) (p .unstamped i l) (kinds i bs) (hit-test bs i w))
+    where
+      s : Steps
+      s = stepsAt (h .model) i
+
+      o : Float
+      o = getD (g .odds) i nan
+
+      c : Cell
+      c = runs f s (frameOpened h) (kinds i bs) (cellAt (gridOpened h g) i)
+
+      go : (c ≡ clouded f s (frameOpened h) o) ⊎ (c ≡ restored f s (frameOpened h) (freed f s o))
+          → (cellAt (sweep f h g bs .grid) i ≡ clouded f s (frameOpened h) o) ⊎ (cellAt (sweep f h g bs .grid) i ≡ restored f s (frameOpened h) (freed f s o))
+      go (inl e) = inl (cell-after bs (p .taken) i l ∙ e)
+      go (inr e) = inr (cell-after bs (p .taken) i l ∙ e)
+
+  cloud-stamp : (i : ℕ) → i < cells (h .extents) → Hit f (h .extents) bs i → cellAt (sweep f h g bs .grid) i .stamp ≡ stampOf (frameOpened h) true
+  cloud-stamp i l w = elim (cloud-cell i l w) [ inl e ↦ ap (λ (c : Cell). c .stamp) e | inr e ↦ ap (λ (c : Cell). c .stamp) e ]
+
+  cloud-odds : (i : ℕ) → i < cells (h .extents) → Hit f (h .extents) bs i
+      → (cellAt (sweep f h g bs .grid) i .odds ≡ cloudAlone f (stepsAt (h .model) i) (getD (g .odds) i nan))
+      ⊎ (cellAt (sweep f h g bs .grid) i .odds ≡ cloudAfterClear f (stepsAt (h .model) i) (frameOpened h) (getD (g .odds) i nan))
+  cloud-odds i l w =
+      let s = stepsAt (h .model) i in
+      let o = freed f s (getD (g .odds) i nan) in
+      elim (cloud-cell i l w) [
+        | inl e ↦ inl (ap (λ (c : Cell). c .odds) e)
+        | inr e ↦ inr (ap (λ (c : Cell). c .odds) e
+            ∙ sym (ap (λ (d : Float). occupy f s o d) (back-step f s (frameOpened h) (record { odds = o; stamp = stampOf (frameOpened h) false }) refl)))
+      ]
+
+  -- ---- the same beams
+  module _ (cs : List Beam) (e : SameBeams bs cs) where
+    taken-too : Taken f (h .extents) cs
+    taken-too b d = p .taken b (e .back b d)
+
+    cloud-same : (i : ℕ) → anyCloud (kinds i bs) ≡ anyCloud (kinds i cs)
+    cloud-same i =
+        let x : Mark = record { place = i; occupied = true } in
+        bool-ext (anyCloud (kinds i bs)) (anyCloud (kinds i cs)) (λ t. hit-test cs i (makes-same f (h .extents) bs cs x (e .there) (test-hit bs i t)))
+        (λ t. hit-test bs i (makes-same f (h .extents) cs bs x (e .back) (test-hit cs i t)))
+
+    mark-same : (i : ℕ) → anyMark (kinds i bs) ≡ anyMark (kinds i cs)
+    mark-same i =
+        bool-ext (anyMark (kinds i bs)) (anyMark (kinds i cs))
+        (λ t. let w = test-touched bs i t in touched-test cs i (w .0, makes-same f (h .extents) bs cs (record { place = i; occupied = w .0 }) (e .there) (w .1)))
+        (λ t. let w = test-touched cs i t in touched-test bs i (w .0, makes-same f (h .extents) cs bs (record { place = i; occupied = w .0 }) (e .back) (w .1)))
+
+    stamps-same : sweep f h g bs .grid .stamps ≡ sweep f h g cs .grid .stamps
+    stamps-same =
+        let a = after-sized bs (p .taken) in
+        let b = after-sized cs taken-too in
+        ext-getD 0 (sweep f h g bs .grid .stamps) (sweep f h g cs .grid .stamps) (a .stamps ∙ sym (b .stamps))
+        (λ i q. let l : i < cells (h .extents) = omega (arith, a .stamps) in
+        let s = stepsAt (h .model) i in
+        let c = cellAt (gridOpened h g) i in
+        ap (λ (x : Cell). x .stamp) (cell-after bs (p .taken) i l) ∙ stamp-is f s (frameOpened h) c (p .unstamped i l) (kinds i bs)
+        ∙ ap₂ (λ (u v : Bool). cond u (stampOf (frameOpened h) true) (cond v (stampOf (frameOpened h) false) (c .stamp))) (cloud-same i) (mark-same i)
+        ∙ sym (ap (λ (x : Cell). x .stamp) (cell-after cs taken-too i l) ∙ stamp-is f s (frameOpened h) c (p .unstamped i l) (kinds i cs)))
+
+    odds-same : Multiples f h g → sweep f h g bs .grid .odds ≡ sweep f h g cs .grid .odds
+    odds-same m =
+        let a = after-sized bs (p .taken) in
+        let b = after-sized cs taken-too in
+        ext-getD nan (sweep f h g bs .grid .odds) (sweep f h g cs .grid .odds) (a .odds ∙ sym (b .odds))
+        (λ i q. let l : i < cells (h .extents) = omega (arith, a .odds) in
+        let s = stepsAt (h .model) i in
+        let c = cellAt (gridOpened h g) i in
+        let x = exact f (h .model) i (c .odds) (p .model) (m .model) (p .within i l) (m .odds i l) (m .clear-of-floor i l) in
+        ap (λ (y : Cell). y .odds) (cell-after bs (p .taken) i l) ∙ odds-are f s (frameOpened h) c (p .unstamped i l) x (kinds i bs)
+        ∙ ap₂ (λ (u v : Bool). cond u (alone f s (c .odds)) (cond v (freed f s (c .odds)) (c .odds))) (cloud-same i) (mark-same i)
+        ∙ sym (ap (λ (y : Cell). y .odds) (cell-after cs taken-too i l) ∙ odds-are f s (frameOpened h) c (p .unstamped i l) x (kinds i cs)))
+
+-- THE THEOREM
+pub demand-three : (f : Format) (h : Head) (g : Grid) (bs : List Beam) → Sweep f h g bs → Settled f h g bs
+demand-three f h g bs p =
+    record {
+      given-a-count = given-a-count f (h .extents) (h .model) (frameOpened h) bs (gridOpened h g) (p .taken);
+      hit-stamp = cloud-stamp f h g bs p;
+      clear-stamp = λ i l w z. ap (λ (c : Cell). c .stamp) (clear-cell f h g bs p i l w z);
+      untouched =
+          λ i l z. cell-after f h g bs p bs (p .taken) i l ∙ no-marks f (stepsAt (h .model) i) (frameOpened h) (cellAt (gridOpened h g) i) (p .unstamped i l)
+          (kinds f h g bs p i bs) (λ t. z (test-touched f h g bs p bs i t));
+      clear-odds = λ i l w z. ap (λ (c : Cell). c .odds) (clear-cell f h g bs p i l w z);
+      cloud-odds = cloud-odds f h g bs p;
+      stamps-same = stamps-same f h g bs p;
+      stamps-permuted = λ cs q. stamps-same f h g bs p cs (permuted bs cs q);
+      stamps-repeated = λ b d. stamps-same f h g bs p (b ∷ bs) (repeated b bs d);
+      odds-same = λ m cs e. odds-same f h g bs p cs e m;
+      odds-permuted = λ m cs q. odds-same f h g bs p cs (permuted bs cs q) m;
+      odds-repeated = λ m b d. odds-same f h g bs p (b ∷ bs) (repeated b bs d) m;
+    }
