@@ -4,9 +4,9 @@ ghost use Prim.Native.Nat.{_+_, _*_, _≤_, _<_};
 ghost use lib.ListN.{length};
 ghost use lib.Seq.{sets};
 ghost use Rattle.rules.specs.LayerChart.{reaches, eighths, bandCover, cellsBetween, fiveOf};
-use overlap::larger_of;
-use overlap::maximum_overlap;
-use overlap::random_overlap;
+use crate::overlap::larger_of;
+use crate::overlap::maximum_overlap;
+use crate::overlap::random_overlap;
 
 // 1 where the odds are at or above a limit.
 fn at_limit(odds: f64, limit: f64) -> u16

@@ -3,7 +3,10 @@
 mod columns;
 mod entry;
 mod grades;
+mod overlap;
 
 pub use columns::chart_of;
 pub use entry::layer_chart2;
 pub use entry::layer_chart3;
+pub use overlap::maximum_overlap;
+pub use overlap::random_overlap;

@@ -14,7 +14,7 @@ use Rattle.rules.specs.TheGridAndItsBounds.{leastExtent, allAtLeast, cells, str
 use Rattle.rules.specs.Coordinates.{StencilAxis, stencilAxis, stencil, joined, cellsOf, offsetsOf, timesStrides, cornerPlace, corners}
 use Rattle.rules.specs.Coordinates.{valueFrom, gradientFrom, sampleAt}
 use Rattle.sample.specs.Sampling.{byBit, oddsFrom, total, highestCorner}
-use Rattle.stencil.proofs.StencilLaws.{cell-above, at-least-first, at-least-rest}
+use Rattle.sample.proofs.StencilLaws.{cell-above, at-least-first, at-least-rest}
 
 -- ---- the last axis of a stencil, taken first
 place-last : (base s : ℕ) (ss : List ℕ) (c : List Bool)

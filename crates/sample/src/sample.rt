@@ -1,12 +1,12 @@
 // The interpolated log-odds at a point, and their gradient: multilinear sums in a fixed order of operations. A weight starts at 1 and is
 // multiplied axes ascending; a sum starts at 0 and adds corners ascending. Corners stand in edges along axis 0, two edges in a square, two
 // squares in a cube, so that three axes are more calls of what two axes call. Which stencil contains a point is `stencil`'s to say.
-use stencil::Stencil2;
-use stencil::Stencil3;
-use stencil::Stencilled2;
-use stencil::Stencilled3;
-use stencil::stencil_containing2;
-use stencil::stencil_containing3;
+use crate::stencil::Stencil2;
+use crate::stencil::Stencil3;
+use crate::stencil::Stencilled2;
+use crate::stencil::Stencilled3;
+use crate::stencil::stencil_containing2;
+use crate::stencil::stencil_containing3;
 use types::Extents2;
 use types::Extents3;
 use types::MapSample2;
@@ -29,7 +29,7 @@ ghost use Rattle.rules.specs.Coordinates.{corners, weighed, valueFrom, sampleAt
 ghost use Rattle.types.specs.Points.{extents2, extents3, point2, point3, vector2, vector3};
 ghost use Rattle.types.specs.Samples.{sample2, sample3};
 ghost use Rattle.types.specs.Answers.{sampleRead2, sampleRead3};
-ghost use Rattle.stencil.specs.Stencil.{stencil2, stencil3};
+ghost use Rattle.sample.specs.Stencil.{stencil2, stencil3};
 ghost use Rattle.sample.specs.Sampling.{onEdge, onSquare, onCube, oddsFrom, gradientOver, highestCorner};
 ghost use Rattle.sample.specs.Sampling.{edgeOf, squareOf, edgeTimes, squareTimes, edgeSum, squareSum};
 ghost use Rattle.sample.specs.Sampling.{alongEdges, alongSquares, betweenEdges, betweenPairs};

@@ -14,7 +14,7 @@ use borrow.Author.Tests.{eqb-true, eqb-false}
 use Rattle.rules.specs.LayerChart.{maximumOverlap, randomOverlap}
 use Rattle.rules.specs.SeasonReport.{stood, differs, nightColumn, night, plus, emptyReport, runReport, goodColumn, goodColumns, nineCounts, goodReportColumn, goodReport}
 use Rattle.laws.specs.Floats.Tests.{order}
-use Rattle.overlap.specs.Totals.{allBelow, each-below, overlaps}
+use Rattle.chart.specs.Totals.{allBelow, each-below, overlaps}
 use Rattle.season.proofs.Sums.{getD-plus}
 use Rattle.season.proofs.Runs.{night-length, night-at, run-length}
 

@@ -10,7 +10,7 @@ use lib.ListN.{length, getD, take, drop, set, length-append, length-drop}
 use lib.Seq.{getD-append-add, getD-drop, take-add, drop-drop, drop-length, take-all, length-take-le}
 use Rattle.rules.specs.SeasonReport.{differs, nightColumn, night, plus, goodColumns}
 use Rattle.season.proofs.Sums.{plus-length, plus-append}
-use Rattle.overlap.specs.Totals.{overlaps}
+use Rattle.chart.specs.Totals.{overlaps}
 use Rattle.season.proofs.Good.{all-proper}
 use Rattle.season.proofs.Runs.{night-length}
 use Rattle.season.specs.Reports.{addedColumn, Roomy}

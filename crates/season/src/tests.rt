@@ -3,8 +3,8 @@ ghost use mathlib.Core.Path.{_≡_};
 ghost use Prim.Native.Nat.{_+_, _*_, _≤_, _<_};
 ghost use lib.ListN.{length};
 ghost use Rattle.rules.specs.SeasonReport.{mostCharts, goodColumn, goodColumns, nineCounts, goodReportColumn, goodReport};
-use overlap::maximum_overlap;
-use overlap::random_overlap;
+use chart::maximum_overlap;
+use chart::random_overlap;
 
 // Three bands of at most 8, and the totals that they give. The column is the list's.
 fn good_column(chart: &[u16], at: usize) -> bool

@@ -1,5 +1,5 @@
 -- The layer chart: what its numbers can be, and what each depends on. `Columns` has a column and the whole chart, `Order` that more odds give no lower
--- grade, `Examples` a chart computed; the two totals side by side stand in overlap/specs/Totals, the limits as decimals in chart/proofs/Limits. Definitions only.
+-- grade, `Examples` a chart computed; the two totals side by side stand in chart/specs/Totals, the limits as decimals in chart/proofs/Limits. Definitions only.
 pub mod Columns
 pub mod Order
 pub mod Examples

@@ -2,7 +2,7 @@
 use mathlib.Core.Path.{sym, ap, _∙_}
 use borrow.Author.Needs.{needs}
 use Rattle.rules.specs.OneBeam.{clip}
-use Rattle.slabs.specs.Spans.{passageOf}
+use Rattle.clip.specs.Spans.{passageOf}
 use Rattle.clip.proofs.clip.clip_segment2.Statement.{statement}
 use Rattle.clip.proofs.clip.clip_segment2.Tie as tie
 

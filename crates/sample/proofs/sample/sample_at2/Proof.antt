@@ -1,7 +1,7 @@
 -- The highest corner's place bounds each sum on the way; the corners are those that the rules name.
 use native.Mathlib.Omega.{arith}
 use mathlib.Core.Path.{_∙_}
-use Rattle.stencil.specs.Stencil.{axisOf}
+use Rattle.sample.specs.Stencil.{axisOf}
 use Rattle.sample.specs.Sampling.{gradientOver}
 use Rattle.sample.proofs.SampleLaws.{sampled, highest-two, odds-two}
 use borrow.Author.Needs.{needs}

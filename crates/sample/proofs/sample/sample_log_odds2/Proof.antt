@@ -4,7 +4,7 @@ use mathlib.Core.Option.{some}
 use lib.Ieee.{binary64}
 use Rattle.rules.specs.Coordinates.{stencil, sample}
 use Rattle.types.specs.Points.{extents2, point2}
-use Rattle.stencil.specs.Stencil.{stencil2, stencilled2}
+use Rattle.sample.specs.Stencil.{stencil2, stencilled2}
 use Rattle.sample.proofs.SampleLaws.{within}
 use borrow.Author.Needs.{needs}
 use Rattle.sample.proofs.sample.sample_log_odds2.Statement.{statement}

@@ -4,7 +4,7 @@ use mathlib.Core.Option.{some}
 use lib.Ieee.{binary64}
 use Rattle.rules.specs.Coordinates.{stencil, sample}
 use Rattle.types.specs.Points.{extents3, point3}
-use Rattle.stencil.specs.Stencil.{stencil3, stencilled3}
+use Rattle.sample.specs.Stencil.{stencil3, stencilled3}
 use Rattle.sample.proofs.SampleLaws.{within}
 use borrow.Author.Needs.{needs}
 use Rattle.sample.proofs.sample.sample_log_odds3.Statement.{statement}

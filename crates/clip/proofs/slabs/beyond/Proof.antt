@@ -1,0 +1,19 @@
+-- By the test on the entry; the extent as a float is the library's.
+use borrow.Author.Needs.{needs}
+use Rattle.rules.specs.Floats.{numberF}
+use Rattle.clip.proofs.slabs.beyond.Statement.{statement}
+use Rattle.clip.proofs.slabs.beyond.Tie as tie
+
+nearest-u64-to-f64-requires : tie.Need-nearest-u64-to-f64-requires
+nearest-u64-to-f64-requires c κs = search needs
+
+returns : tie.Need-returns
+unfolding numberF
+returns c = simp (← c .before .nearest-u64-to-f64 .ensures, c .if1 .taken)
+
+returns-2 : tie.Need-returns-2
+unfolding numberF
+returns-2 c = simp (← c .before .nearest-u64-to-f64 .ensures, c .if1 .left)
+
+pub beyond-spec : {M : Type 1} → statement M
+beyond-spec = tie.close (tie.spec nearest-u64-to-f64-requires returns returns-2)

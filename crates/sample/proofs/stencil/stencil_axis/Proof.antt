@@ -1,0 +1,65 @@
+-- The code's two tests are the rule's; a coordinate that is not below zero has no cell below zero, so the cell is a number.
+use mathlib.Core.Path.{_≡_, ap}
+use mathlib.Core.Option.{some}
+use lib.Signed.{natAbs-le}
+use lib.Ieee.{ofBits}
+use mir.Syntax.{w64}
+use mir.Val.{toZ, ofZ}
+use mir.ValLaws.{toZ-ofZ}
+use mir.Facts.{fits-natAbs}
+use Rattle.rules.specs.Floats.{numberF}
+use Rattle.rules.specs.Coordinates.{stencilAxis}
+use Rattle.sample.proofs.StencilLaws.{cell-not-below}
+use borrow.Author.Needs.{needs}
+use Rattle.sample.proofs.stencil.stencil_axis.Statement.{statement}
+use Rattle.sample.proofs.stencil.stencil_axis.Tie as tie
+
+sub-nearest-u64-to-f64 : tie.Need-sub-nearest-u64-to-f64
+sub-nearest-u64-to-f64 c = search needs
+
+nearest-u64-to-f64-requires : tie.Need-nearest-u64-to-f64-requires
+nearest-u64-to-f64-requires c κs = search needs
+
+cell-of-requires : tie.Need-cell-of-requires
+cell-of-requires c κs = search needs
+
+-- the cell, read back from its bits as itself
+back : (c : tie.After-cell-of) → toZ w64 (ofZ w64 (c .cell-of .result)) ≡ c .cell-of .result
+back c = toZ-ofZ w64 (c .cell-of .result) (record { sfits = c .cell-of .ok })
+
+cast-cell : tie.Need-cast-cell
+unfolding ofBits
+cast-cell c =
+    rw (back c)
+    (rw (← c .cell-of .ensures) at (cell-not-below _ (c .before .before .if1 .taken)), fits-natAbs {w = w64} {z = c .cell-of .result} tt (record { sfits = c .cell-of .ok }))
+
+folded-axis-requires : tie.Need-folded-axis-requires
+folded-axis-requires c κs = (c .before .before .before .before .pre, rw (back c) (natAbs-le (c .cell-of .result) (c .cell-of .ok)))
+
+returns : tie.Need-returns
+unfolding stencilAxis numberF ofBits
+returns c =
+    let s = c .before .before .before in
+    let k = rw (back (c .before), c .before .cell-of .ensures) at (c .folded-axis .ensures) in
+    rw (s .if1 .taken, ← s .before .nearest-u64-to-f64 .ensures, c .before .before .if2 .taken) (ap some k)
+
+returns-2 : tie.Need-returns-2
+unfolding stencilAxis numberF ofBits
+returns-2 c = rw (c .before .if1 .taken, ← c .before .before .nearest-u64-to-f64 .ensures, c .if2 .left)
+
+returns-3 : tie.Need-returns-3
+unfolding stencilAxis ofBits
+returns-3 c = rw (c .if1 .left)
+
+pub stencil-axis-spec : {M : Type 1} → statement M
+stencil-axis-spec =
+    tie.close
+    (tie.spec
+    sub-nearest-u64-to-f64
+    nearest-u64-to-f64-requires
+    cell-of-requires
+    cast-cell
+    folded-axis-requires
+    returns
+    returns-2
+    returns-3)

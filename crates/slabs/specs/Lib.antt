@@ -1,2 +1,0 @@
--- What a slab stands for in the rules.
-pub mod Spans
