@@ -8,6 +8,10 @@ ghost use Rattle.laws.specs.ModelBounds.{sizesBounded};
 ghost use Rattle.types.specs.Models.{modelOf, bandsOf};
 ghost use Rattle.types.specs.Points.{extents2, extents3};
 ghost use Rattle.checks.specs.Checking.{checkOf, usesOf, usedRefusal, headOf2, headOf3};
+
+mod counts;
+
+pub use counts::so_many_each;
 use types::Bands;
 use types::Extents2;
 use types::Extents3;

@@ -1,9 +1,10 @@
-// Whether lists are of one size, in columns: by dividing, as a product could wrap.
+// Whether lists are of one size, in columns.
 ghost use mathlib.Core.Path.{_≡_};
 ghost use mathlib.Core.Bool.{_&&_};
 ghost use Prim.Native.Nat.{_*_};
 ghost use lib.Dec.{eqb};
 ghost use Rattle.rules.specs.SeasonReport.{isReport, reportColumns};
+use checks::so_many_each;
 
 // Twelve numbers a column and none over.
 pub fn is_report(size: usize) -> bool
@@ -17,13 +18,7 @@ pub fn same_sizes(report: usize, count: usize, run: usize) -> bool
     ensures { λ r. ⌜ r ≡ (isReport report && eqb run (5 * reportColumns report * count)) ⌝ }
 {
     if is_report(report) {
-        let size = 5 * (report / 12);
-        if size == 0 {
-            return run == 0;
-        }
-        if run % size == 0 {
-            return run / size == count;
-        }
+        return so_many_each(run, 5 * (report / 12), count);
     }
     false
 }
