@@ -4,31 +4,35 @@ use mathlib.Core.Bool.{Bool, true, false, cond}
 use mathlib.Core.List.{List, [], _++_}
 use mathlib.Core.Path.{_≡_, refl, sym, ap, ap₂, _∙_}
 use native.Mathlib.Omega.{arith}
-use lib.Dec.{eqb}
 use lib.Ieee.{Float, binary64}
 use lib.ListN.{length, getD, set}
-use borrow.Author.Tests.{eq-eqb, ne-eqb}
+use mir.Val.{boolByte}
 use Rattle.rules.specs.RefusalNumbers.{given}
 use Rattle.rules.specs.RefusalNumbers.Entries.{Outcome}
 use Rattle.rules.specs.TheGridAndItsBounds.{Model, Grid}
-use Rattle.rules.specs.MarksAndFrames.{Steps, Marked, Mark, markAt, withCell, marked, changes, stepsAt}
+use Rattle.rules.specs.MarksAndFrames.{Mark, markAt, withCell, marked, changes, stepsAt}
 use Rattle.laws.specs.MarkLists.{marked-append, changes-append}
 use Rattle.laws.specs.Room.{room, room-set, mark-lowers}
 use Rattle.marks.specs.Marking.{gridOf, markOn, MarkedAt}
 use Rattle.beam.specs.Applying.{Applied, one}
+
+-- a bool cast to a number counts one mark or none
+as-counted : (b : Bool) → boolByte b ≡ cond b 1 0
+as-counted true = refl
+as-counted false = refl
 
 module _ (m : Model) (k : ℕ) where
   pub none-applied : (odds : List Float) (stamps : List ℕ) → Applied [] m k odds stamps 0 odds stamps
   unfolding marked changes
   none-applied odds stamps = record { count = refl; grid = refl; used = omega arith }
 
-  pub one-applied : (occupied : Bool) (at : ℕ) (odds odds′ : List Float) (stamps stamps′ : List ℕ) (changed : Bool) (n : ℕ)
-      → at < length stamps → MarkedAt occupied (stepsAt m at) k at odds stamps changed odds′ stamps′ → n ≡ cond changed 1 0
-      → Applied (one at occupied) m k odds stamps n odds′ stamps′
+  pub one-applied : (occupied : Bool) (at : ℕ) (odds odds′ : List Float) (stamps stamps′ : List ℕ) (changed : Bool)
+      → at < length stamps → MarkedAt occupied (stepsAt m at) k at odds stamps changed odds′ stamps′
+      → Applied (one at occupied) m k odds stamps (boolByte changed) odds′ stamps′
   unfolding marked changes markAt
-  one-applied occupied at odds odds′ stamps stamps′ changed n h d e =
+  one-applied occupied at odds odds′ stamps stamps′ changed h d =
       let r = markOn occupied (stepsAt m at) k at odds stamps in
-      let c : n ≡ cond (r .changed) 1 0 = e ∙ ap (λ (b : Bool). cond b 1 0) (d .answer) in
+      let c : boolByte changed ≡ cond (r .changed) 1 0 = as-counted changed ∙ ap (λ (b : Bool). cond b 1 0) (d .answer) in
       let low = mark-lowers binary64 (stepsAt m at) k occupied (record { odds = getD odds at lib.Ieee.nan; stamp = getD stamps at 0 }) in
       let moved = room-set k stamps at (r .cell .stamp) h in
       let after : room k stamps′ ≡ room k (set stamps at (r .cell .stamp)) = ap (room k) (d .stamps-now) in
@@ -55,31 +59,14 @@ module _ (m : Model) (k : ℕ) where
         used = omega arith;
       }
 
--- a model that has the same steps at the place marks it the same
-pub one-alike : (m n : Model) (k at : ℕ) (occupied : Bool) (odds odds′ : List Float) (stamps stamps′ : List ℕ) (r : ℕ) → stepsAt m at ≡ stepsAt n at
-    → Applied (one at occupied) m k odds stamps r odds′ stamps′ → Applied (one at occupied) n k odds stamps r odds′ stamps′
-unfolding marked changes markAt
-one-alike m n k at occupied odds odds′ stamps stamps′ r e a =
-    let g = gridOf odds stamps in
-    let marking : (Steps → Marked) = λ s. markOn occupied s k at odds stamps in
-    record {
-      count = a .count ∙ ap (λ (s : Steps). cond (marking s .changed) 1 0 + 0) e;
-      grid = a .grid ∙ ap (λ (s : Steps). withCell g at (marking s .cell)) e;
-      used = a .used;
-    }
-
--- one mark's count says whether it changed the cell
-changed-by-count : (b : Bool) (n : ℕ) → n ≡ cond b 1 0 + 0 → eqb n 1 ≡ b
-changed-by-count true n e = eq-eqb n 1 (omega arith)
-changed-by-count false n e = ne-eqb n 1 (λ z. omega arith)
-
-pub mark-answered : (m : Model) (k : ℕ) (at : ℕ) (occupied : Bool) (odds odds′ : List Float) (stamps stamps′ : List ℕ) (n : ℕ)
-    → Applied (one at occupied) m k odds stamps n odds′ stamps′
-    → _≡_ {A = Outcome Bool Grid} (record { answer = given (eqb n 1); lent = gridOf odds′ stamps′ })
+-- one mark, as the entries answer it
+pub mark-answered : (m : Model) (k at : ℕ) (occupied : Bool) (odds odds′ : List Float) (stamps stamps′ : List ℕ) (changed : Bool)
+    → MarkedAt occupied (stepsAt m at) k at odds stamps changed odds′ stamps′
+    → _≡_ {A = Outcome Bool Grid} (record { answer = given changed; lent = gridOf odds′ stamps′ })
     (record {
       answer = given (markAt binary64 m k (record { place = at; occupied = occupied }) (gridOf odds stamps) .changed);
       lent = withCell (gridOf odds stamps) at (markAt binary64 m k (record { place = at; occupied = occupied }) (gridOf odds stamps) .cell);
     })
-unfolding marked changes
-mark-answered m k at occupied odds odds′ stamps stamps′ n a =
-    ap₂ (λ (b : Bool) (g : Grid). record { answer = given b; lent = g }) (changed-by-count _ n (a .count)) (a .grid)
+unfolding markAt
+mark-answered m k at occupied odds odds′ stamps stamps′ changed d =
+    ap₂ (λ (b : Bool) (g : Grid). record { answer = given b; lent = g }) (d .answer) (ap₂ gridOf (d .odds-now) (d .stamps-now))

@@ -46,7 +46,7 @@ pub fn follow2(map: GridMap2, odds: &mut [f64], stamps: &mut [u32], line: Bresen
             return Part2 { rest, count };
         }
         let at = place_within2(extents, x, y);
-        count += mark_place(odds, stamps, at, map.model, map.frame, false);
+        count += mark_place(odds, stamps, at, map.model, map.frame, false) as u64;
         x = cell_after(x, rest.x, 0, rest.primary, rest.threshold);
         y = cell_after(y, rest.y, 1, rest.primary, rest.threshold);
         rest = rest.moved();
@@ -87,7 +87,7 @@ pub fn follow3(map: GridMap3, odds: &mut [f64], stamps: &mut [u32], line: Bresen
             return Part3 { rest, count };
         }
         let at = place_within3(extents, x, y, z);
-        count += mark_place3(map, odds, stamps, at, false);
+        count += mark_place3(map, odds, stamps, at, false) as u64;
         x = cell_after(x, rest.x, 0, rest.primary, rest.threshold);
         y = cell_after(y, rest.y, 1, rest.primary, rest.threshold);
         z = cell_after(z, rest.z, 2, rest.primary, rest.threshold);

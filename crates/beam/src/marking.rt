@@ -1,14 +1,15 @@
-// A mark by cell: the cell is found in the lists and marked, or skipped where it is off the grid. The answer is how many marks changed it.
+// One mark: by place, and whether it changed the cell; by cell, where one off the grid is skipped, and how many marks changed a cell.
 ghost use Prim.Native.Nat.{_<_, _≤_};
 ghost use lib.ListN.{length};
 ghost use Rattle.laws.specs.Checks.{Ready};
 ghost use Rattle.rules.specs.Coordinates.{flatIndex};
-ghost use Rattle.rules.specs.MarksAndFrames.{highestFrame};
+ghost use Rattle.rules.specs.MarksAndFrames.{highestFrame, stepsAt};
 ghost use Rattle.rules.specs.OneBeam.{markOf};
 ghost use Rattle.types.specs.Points.{cell2, cell3, extents2, extents3};
 ghost use Rattle.types.specs.Models.{modelOf, bandsOf};
 ghost use Rattle.grid_map.specs.Heads.{head2, head3};
-ghost use Rattle.beam.specs.Applying.{Applied, one};
+ghost use Rattle.marks.specs.Marking.{MarkedAt};
+ghost use Rattle.beam.specs.Applying.{Applied};
 use grid_map::GridMap2;
 use grid_map::GridMap3;
 use marks::mark_free_at;
@@ -31,22 +32,16 @@ pub fn mark_place(
     model: Model,
     frame: Frame,
     occupied: bool,
-) -> u64
+) -> bool
     requires { ⌜ at < length (now odds) ⌝ ∗ ⌜ at < length (now stamps) ⌝ ∗ ⌜ frame .0 ≤ highestFrame ⌝ }
-    ensures { λ r. ⌜ Applied (one at occupied) (modelOf model) (frame .0)
+    ensures { λ r. ⌜ MarkedAt occupied (stepsAt (modelOf model) at) (frame .0) at
         (now (odds .entry)) (now (stamps .entry)) r (now (odds .exit)) (now (stamps .exit)) ⌝ }
 {
     let s = steps_at(model, at);
     if occupied {
-        if mark_occupied_at(odds, stamps, at, s, frame) {
-            return 1;
-        }
-        return 0;
+        return mark_occupied_at(odds, stamps, at, s, frame);
     }
-    if mark_free_at(odds, stamps, at, s, frame) {
-        return 1;
-    }
-    0
+    mark_free_at(odds, stamps, at, s, frame)
 }
 
 // The same on a map of three axes, whose cell has its band's model. On a head that has passed its checks.
@@ -56,9 +51,9 @@ pub fn mark_place3(
     stamps: &mut [u32],
     at: usize,
     occupied: bool,
-) -> u64
+) -> bool
     requires { ⌜ Ready (head3 map) (length (now odds)) (length (now stamps)) ⌝ ∗ ⌜ at < length (now odds) ⌝ }
-    ensures { λ r. ⌜ Applied (one at occupied) (bandsOf (map .extents) (map .bands)) (map .frame .0)
+    ensures { λ r. ⌜ MarkedAt occupied (stepsAt (bandsOf (map .extents) (map .bands)) at) (map .frame .0) at
         (now (odds .entry)) (now (stamps .entry)) r (now (odds .exit)) (now (stamps .exit)) ⌝ }
 {
     let model = model_at(map.extents, map.bands, at);
@@ -79,7 +74,7 @@ pub fn mark_cell2(
 {
     match translate_to_index2(map.extents, cell) {
         Place::Refused(_) => 0,
-        Place::At(i) => mark_place(odds, stamps, i, map.model, map.frame, occupied),
+        Place::At(i) => mark_place(odds, stamps, i, map.model, map.frame, occupied) as u64,
     }
 }
 
@@ -97,6 +92,6 @@ pub fn mark_cell3(
 {
     match translate_to_index3(map.extents, cell) {
         Place::Refused(_) => 0,
-        Place::At(i) => mark_place3(map, odds, stamps, i, occupied),
+        Place::At(i) => mark_place3(map, odds, stamps, i, occupied) as u64,
     }
 }

@@ -34,9 +34,9 @@ pub fn mark_column(
     let mut left = above;
     let mut count: u64 = 0;
     while left > 0 {
-        count += mark_place3(map, odds, stamps, at, false);
+        count += mark_place3(map, odds, stamps, at, false) as u64;
         at += layer;
         left -= 1;
     }
-    count + mark_place3(map, odds, stamps, at, occupied)
+    count + mark_place3(map, odds, stamps, at, occupied) as u64
 }

@@ -5,12 +5,13 @@ use mathlib.Core.Path.{refl, sym, ap, _∙_}
 use native.Mathlib.Omega.{arith}
 use borrow.Author.Needs.{needs}
 use denote.Ref.{now}
+use mir.Val.{boolByte}
 use Rattle.rules.specs.TheLine.{Line, axesAfter}
 use Rattle.laws.specs.Places.{place-lt}
 use Rattle.laws.specs.Room.{room-most}
 use Rattle.bresenham.specs.Lines.{line3}
 use Rattle.grid_map.specs.Heads.{head3}
-use Rattle.beam.proofs.Following.{Along, on-a-map, starts, follows}
+use Rattle.beam.proofs.Following.{Along, on-a-map, starts, counts, follows}
 use Rattle.beam.proofs.follow.follow3.Statement.{statement}
 use Rattle.beam.proofs.follow.follow3.Tie as tie
 
@@ -69,10 +70,13 @@ mark-place3-requires c κs =
     let p = c .before .before .before .before .before .before .before .before .before .before .loop .inv .begun .walked false .ready in
     (p, rw (p .odds-count) lt)
 
+cast-count : tie.Need-cast-count Inv-loop μ-loop
+cast-count c = search needs
+
 add-count : tie.Need-add-count Inv-loop μ-loop
 add-count c =
     let before = c .before .before .before .before .before .before .before .before .before .before .before .before .before .before .before .loop .inv .begun .walked false .used in
-    let step = c .before .before .before .before .mark-place3 .ensures .used in
+    let step = counts _ _ _ _ _ _ _ _ _ _ (c .before .before .before .before .before .before .before .before .before .before .before .before .before .before .before .loop .inv) _ _ _ _ (place-lt _ _ _ refl (c .before .before .before .before .before .before .before .place-within3 .ensures)) (c .before .before .before .before .mark-place3 .ensures) .used in
     let most = room-most (c .before .before .before .before .before .before .before .before .before .before .before .before .before .before .before .before .before .before .before .before .before .before .before .before .before .args .map .frame .0) (now (c .before .before .before .before .before .before .before .before .before .before .before .before .before .before .before .before .before .before .before .before .before .before .before .before .before .args .stamps)) in
     let counted = c .before .before .before .before .before .before .before .before .before .before .before .before .before .before .before .before .before .before .before .before .before .before .before .before .before .pre .0 .stamps-count in
     let few = c .before .before .before .before .before .before .before .before .before .before .before .before .before .before .before .before .before .before .before .before .before .before .before .before .before .pre .0 .extents .1 in
@@ -109,7 +113,7 @@ loop-less c =
 loop-again : tie.Need-loop-again Inv-loop μ-loop
 unfolding axesAfter
 loop-again c =
-    follows _ _ _ _ _ (line3 (c .before .before .before .before .before .before .before .before .before .before .before .before .before .before .before .before .before .before .before .loop .rest)) _ _ _ _ (c .before .before .before .before .before .before .before .before .before .before .before .before .before .before .before .before .before .before .before .loop .inv) _ _ _ (c .before .before .before .before .before .before .before .before .mark-place3 .result) _ _
+    follows _ _ _ _ _ (line3 (c .before .before .before .before .before .before .before .before .before .before .before .before .before .before .before .before .before .before .before .loop .rest)) _ _ _ _ (c .before .before .before .before .before .before .before .before .before .before .before .before .before .before .before .before .before .before .before .loop .inv) _ _ _ (boolByte (c .before .before .before .before .before .before .before .before .mark-place3 .result)) _ _
     (c .before .before .before .before .before .before .before .before .before .before .before .before .before .before .before .before .before .before .loop-test .taken) (
       on-a-map _ _ (c .before .before .before .before .before .before .before .before .before .before .before .before .before .before .before .before .if1 .left) (c .before .before .before .before .before .before .before .before .before .before .before .before .before .before .before .before .before .before .before .before .before .before .before .before .before .before .before .before .before .pre .0 .extents .0 .1),
       (
@@ -120,7 +124,7 @@ loop-again c =
         ),
       ),
     )
-    (c .before .before .before .before .before .before .before .before .before .before .before .place-within3 .ensures) (c .before .before .before .before .before .before .before .before .mark-place3 .ensures) (c .moved .ensures)
+    (c .before .before .before .before .before .before .before .before .before .before .before .place-within3 .ensures) (counts _ _ _ _ _ _ _ _ _ _ (c .before .before .before .before .before .before .before .before .before .before .before .before .before .before .before .before .before .before .before .loop .inv) _ _ _ _ (place-lt _ _ _ refl (c .before .before .before .before .before .before .before .before .before .before .before .place-within3 .ensures)) (c .before .before .before .before .before .before .before .before .mark-place3 .ensures)) (c .moved .ensures)
     (c .before .before .before .cell-after .ensures, (c .before .before .cell-after2 .ensures, (c .before .cell-after3 .ensures, tt)))
 
 same-length-7 : tie.Need-same-length-7 Inv-loop μ-loop
@@ -153,6 +157,7 @@ follow3-spec =
     returns-3
     place-within3-requires
     mark-place3-requires
+    cast-count
     add-count
     cell-after-requires
     cell-after-requires-2

@@ -3,7 +3,7 @@ use mathlib.Core.Path.{refl, sym, ap, _∙_}
 use borrow.Author.Needs.{needs}
 use Rattle.laws.specs.Places.{place-lt}
 use Rattle.places.specs.Places.{placeOf}
-use Rattle.beam.proofs.Applying.{none-applied}
+use Rattle.beam.proofs.Applying.{none-applied, one-applied}
 use Rattle.beam.proofs.marking.mark_cell3.Statement.{statement}
 use Rattle.beam.proofs.marking.mark_cell3.Tie as tie
 
@@ -23,6 +23,9 @@ mark-place3-requires c κs =
     let p = c .before .before .before .before .before .before .before .before .pre in
     (p, rw (p .odds-count) lt)
 
+cast-result : tie.Need-cast-result
+cast-result c = search needs
+
 returns : tie.Need-returns
 returns c = rw (sym (c .before .before .translate-to-index3 .ensures) ∙ ap placeOf (c .enum-told .given .1)) (none-applied _ _ _ _)
 
@@ -33,7 +36,10 @@ same-length-2 : tie.Need-same-length-2
 same-length-2 c = search needs
 
 returns-2 : tie.Need-returns-2
-returns-2 c = rw (sym (c .before .before .before .before .before .before .before .before .before .before .translate-to-index3 .ensures) ∙ ap placeOf (c .before .before .before .before .before .before .before .before .i .given .1)) (c .before .before .before .before .mark-place3 .ensures)
+returns-2 c =
+    let found = sym (c .before .before .before .before .before .before .before .before .before .before .translate-to-index3 .ensures) ∙ ap placeOf (c .before .before .before .before .before .before .before .before .i .given .1) in
+    let p = c .before .before .before .before .before .before .before .before .before .before .before .before .before .pre in
+    rw found (one-applied _ _ _ _ _ _ _ _ _ (rw (p .stamps-count) (place-lt _ _ _ refl found)) (c .before .before .before .before .mark-place3 .ensures))
 
 pub mark-cell3-spec : {M : Type 1} → statement M
 mark-cell3-spec =
@@ -43,6 +49,7 @@ mark-cell3-spec =
     enum-told
     enum-known-i
     mark-place3-requires
+    cast-result
     returns
     same-length
     same-length-2

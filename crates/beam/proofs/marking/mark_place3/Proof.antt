@@ -2,9 +2,6 @@
 use mathlib.Core.Path.{sym, _∙_, subst}
 use Prim.Native.Nat.{ℕ, _<_}
 use borrow.Author.Needs.{needs}
-use denote.Ref.{now}
-use Rattle.types.specs.Models.{bandsOf}
-use Rattle.beam.proofs.Applying.{one-alike}
 use Rattle.beam.proofs.marking.mark_place3.Statement.{statement}
 use Rattle.beam.proofs.marking.mark_place3.Tie as tie
 
@@ -23,10 +20,7 @@ same-length-2 : tie.Need-same-length-2
 same-length-2 c = search needs
 
 returns : tie.Need-returns
-returns c =
-    let a = c .before .before .before .before .before .before .before .before .before .before .args in
-    one-alike _ (bandsOf (a .map .extents) (a .map .bands)) (a .map .frame .0) (a .at) (a .occupied) (now (a .odds)) _ (now (a .stamps)) _ _
-    (c .before .before .before .before .before .before .before .model-at .ensures) (c .before .before .before .before .mark-place .ensures)
+returns c = rw (c .before .before .before .before .before .before .before .model-at .ensures) at (c .before .before .before .before .mark-place .ensures)
 
 pub mark-place3-spec : {M : Type 1} → statement M
 mark-place3-spec =

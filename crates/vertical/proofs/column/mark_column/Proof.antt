@@ -6,9 +6,10 @@ use native.Mathlib.Omega.{arith}
 use borrow.Author.Needs.{needs}
 use denote.Ref.{now}
 use mir.Facts.{fits-le, fits-lit}
+use mir.Val.{boolByte}
 use Rattle.laws.specs.Room.{room-most}
 use Rattle.grid_map.specs.Heads.{head3}
-use Rattle.vertical.proofs.Climbing.{next-place, place-below, place-is, Climbing, starts, goes-up, ends}
+use Rattle.vertical.proofs.Climbing.{next-place, place-below, place-is, Climbing, starts, counts, goes-up, ends}
 use Rattle.vertical.proofs.column.mark_column.Statement.{statement}
 use Rattle.vertical.proofs.column.mark_column.Tie as tie
 
@@ -46,12 +47,19 @@ mark-place3-requires c κs =
     let lt = place-below _ _ _ _ _ _ _ (w .place) (s .pre .1 .0) (s .pre .1 .1 .0) (omega arith) in
     (w .ready, rw (w .ready .odds-count) lt)
 
+cast-count : tie.Need-cast-count Inv-loop μ-loop
+cast-count c = search needs
+
 add-count : tie.Need-add-count Inv-loop μ-loop
 add-count c =
     let w = c .before .before .before .before .before .before .before .before .loop .inv in
     let s = c .before .before .before .before .before .before .before .before .before .before .before .before .before .before in
     let before = w .used in
-    let step = c .before .before .before .before .mark-place3 .ensures .used in
+    let h = s .pre .1 .1 .1 in
+    let l = w .level in
+    let t = c .before .before .before .before .before .before .before .loop-test .taken in
+    let lt = place-below _ _ _ _ _ _ _ (w .place) (s .pre .1 .0) (s .pre .1 .1 .0) (omega arith) in
+    let step = counts _ _ _ _ _ _ _ _ _ _ _ _ _ _ _ _ _ w lt (c .before .before .before .before .mark-place3 .ensures) .used in
     let most = room-most (s .args .map .frame .0) (now (s .args .stamps)) in
     let counted = s .pre .0 .stamps-count in
     let few = s .pre .0 .extents .1 in
@@ -79,8 +87,11 @@ loop-again c =
     let w = c .before .before .before .before .before .before .before .before .loop .inv in
     let s = c .before .before .before .before .before .before .before .before .before .before .before .before .before .before in
     let t = c .before .before .before .before .before .before .before .loop-test .taken in
-    goes-up _ _ _ _ _ _ _ _ _ _ _ _ _ _ (c .before .before .before .before .mark-place3 .result) _ _ w (omega arith)
-    (c .before .before .before .before .mark-place3 .ensures)
+    let h = s .pre .1 .1 .1 in
+    let l = w .level in
+    let lt = place-below _ _ _ _ _ _ _ (w .place) (s .pre .1 .0) (s .pre .1 .1 .0) (omega arith) in
+    goes-up _ _ _ _ _ _ _ _ _ _ _ _ _ _ (boolByte (c .before .before .before .before .mark-place3 .result)) _ _ w (omega arith)
+    (counts _ _ _ _ _ _ _ _ _ _ _ _ _ _ _ _ _ w lt (c .before .before .before .before .mark-place3 .ensures))
     (next-place _ _ _ _ _ _ _ (w .place))
 
 mark-place3-requires-2 : tie.Need-mark-place3-requires-2 Inv-loop μ-loop
@@ -92,12 +103,18 @@ mark-place3-requires-2 c κs =
     let lt = place-below _ _ _ _ _ _ _ (w .place) (s .pre .1 .0) (s .pre .1 .1 .0) (omega arith) in
     (w .ready, rw (w .ready .odds-count) lt)
 
+cast-result : tie.Need-cast-result Inv-loop μ-loop
+cast-result c = search needs
+
 add-result : tie.Need-add-result Inv-loop μ-loop
 add-result c =
     let w = c .before .before .before .before .before .before .before .before .loop .inv in
     let s = c .before .before .before .before .before .before .before .before .before .before .before .before .before .before in
     let before = w .used in
-    let step = c .before .before .before .before .mark-place32 .ensures .used in
+    let h = s .pre .1 .1 .1 in
+    let l = w .level in
+    let lt = place-below _ _ _ _ _ _ _ (w .place) (s .pre .1 .0) (s .pre .1 .1 .0) (omega arith) in
+    let step = counts _ _ _ _ _ _ _ _ _ _ _ _ _ _ _ _ _ w lt (c .before .before .before .before .mark-place32 .ensures) .used in
     let most = room-most (s .args .map .frame .0) (now (s .args .stamps)) in
     let counted = s .pre .0 .stamps-count in
     let few = s .pre .0 .extents .1 in
@@ -111,10 +128,14 @@ same-length-2 c = search needs
 
 returns : tie.Need-returns Inv-loop μ-loop
 returns c =
+    let w = c .before .before .before .before .before .before .before .before .loop .inv in
+    let s = c .before .before .before .before .before .before .before .before .before .before .before .before .before .before in
     let t = c .before .before .before .before .before .before .before .loop-test .left in
-    ends _ _ _ _ _ _ _ _ _ _ _ _ _ (c .before .before .before .before .mark-place32 .result) _ _
-    (c .before .before .before .before .before .before .before .before .loop .inv) (omega arith)
-    (c .before .before .before .before .mark-place32 .ensures)
+    let h = s .pre .1 .1 .1 in
+    let l = w .level in
+    let lt = place-below _ _ _ _ _ _ _ (w .place) (s .pre .1 .0) (s .pre .1 .1 .0) (omega arith) in
+    ends _ _ _ _ _ _ _ _ _ _ _ _ _ (boolByte (c .before .before .before .before .mark-place32 .result)) _ _ w (omega arith)
+    (counts _ _ _ _ _ _ _ _ _ _ _ _ _ _ _ _ _ w lt (c .before .before .before .before .mark-place32 .ensures))
 
 pub mark-column-spec : {M : Type 1} → statement M
 mark-column-spec =
@@ -126,12 +147,14 @@ mark-column-spec =
     place-within3-requires
     loop-holds
     mark-place3-requires
+    cast-count
     add-count
     add-at
     sub-left
     loop-less
     loop-again
     mark-place3-requires-2
+    cast-result
     add-result
     same-length
     same-length-2
