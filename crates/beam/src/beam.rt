@@ -5,7 +5,7 @@ ghost use lib.Ieee.{binary64};
 ghost use lib.ListN.{length};
 ghost use Rattle.laws.specs.Checks.{Ready};
 ghost use Rattle.rules.specs.OneBeam.{marksBetween, integratedMarks, integratedBeam};
-ghost use Rattle.types.specs.Beams.{isHit, beam2, beam3};
+ghost use Rattle.types.specs.Beams.{beam2, beam3};
 ghost use Rattle.types.specs.Models.{modelOf, bandsOf};
 ghost use Rattle.types.specs.Points.{extents2, extents3};
 ghost use Rattle.clip.specs.Clips.{clip2, clip3};
@@ -27,19 +27,9 @@ use clip::clip_beam3;
 use grid_map::GridMap2;
 use grid_map::GridMap3;
 use types::CountAnswer;
-use types::RayTermination;
 use types::Refusal;
 use types::ScanBeam2;
 use types::ScanBeam3;
-
-fn is_hit(t: RayTermination) -> bool
-    ensures { λ r. ⌜ r ≡ isHit t ⌝ }
-{
-    match t {
-        RayTermination::Hit => true,
-        RayTermination::MaxRange => false,
-    }
-}
 
 fn both(a: bool, b: bool) -> bool
     ensures { λ r. ⌜ r ≡ (a && b) ⌝ }
@@ -94,7 +84,7 @@ pub fn integrate2(
     let termination = beam.termination;
     match clip_beam2(map.extents, origin, endpoint) {
         Tried2::NotFinite => CountAnswer::Refused(Refusal::Ray),
-        Tried2::Clip(clip) => integrate_clipped2(map, odds, stamps, clip, is_hit(termination)),
+        Tried2::Clip(clip) => integrate_clipped2(map, odds, stamps, clip, termination.0),
     }
 }
 
@@ -142,6 +132,6 @@ pub fn integrate3(
     let termination = beam.termination;
     match clip_beam3(map.extents, origin, endpoint) {
         Tried3::NotFinite => CountAnswer::Refused(Refusal::Ray),
-        Tried3::Clip(clip) => integrate_clipped3(map, odds, stamps, clip, is_hit(termination)),
+        Tried3::Clip(clip) => integrate_clipped3(map, odds, stamps, clip, termination.0),
     }
 }

@@ -2,5 +2,4 @@
 pub mod Refusals
 pub mod Structs
 pub mod Answers
-pub mod Beams
 pub mod Lines

@@ -1,9 +1,8 @@
 // What C sees: a struct of plain numbers for each answer, where the library's own answers are enums that cannot cross, and the
-// conversions. Nothing is decided here. The points, cells, models, heads and lines of the crates below cross as they are.
+// conversions. Nothing is decided here. The points, cells, beams, models, heads and lines of the crates below cross as they are.
 mod answers;
 mod answers2;
 mod answers3;
-mod beams;
 mod lines;
 mod refusals;
 
@@ -28,12 +27,6 @@ pub use answers3::CSampleAnswer3;
 pub use answers3::cell3_to_c;
 pub use answers3::map3_to_c;
 pub use answers3::sample3_to_c;
-pub use beams::CBeam2;
-pub use beams::CBeam3;
-pub use beams::CVerticalBeam;
-pub use beams::beam2_from_c;
-pub use beams::beam3_from_c;
-pub use beams::vertical_from_c;
 pub use lines::CLineAnswer2;
 pub use lines::CLineAnswer3;
 pub use lines::CStep2;

@@ -45,7 +45,7 @@ fn hit_on(map: GridMap2, odds: &mut [f64], stamps: &mut [u32], origin: Point2, e
     let beam = ScanBeam2 {
         origin,
         endpoint,
-        termination: RayTermination::Hit,
+        termination: RayTermination::HIT,
     };
     count(ScanUpdater2 { map }.update_ray(odds, stamps, beam));
     marked_cells(odds, stamps);

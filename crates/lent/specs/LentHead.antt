@@ -27,6 +27,10 @@ headAfter was (refused r) = was
 abbrev pub leftIn : Head → Outcome Head (List ℕ) → Opened
 leftIn was out = record { answer = done (out .answer); head = headAfter was (out .answer); stamps = out .lent }
 
+-- the same in the form of an entry's outcome, with the head beside the stamps among what is lent
+abbrev pub inPlace : Opened → Outcome (Unit {0}) (Head × List ℕ)
+inPlace o = record { answer = o .answer; lent = (o .head, o .stamps) }
+
 -- an answer with the head and the stamps as they stand afterwards
 abbrev pub opened2 : SetAnswer → GridMap2 → List ℕ → Opened
 opened2 r map stamps = record { answer = setAnswer r; head = head2 map; stamps = stamps }

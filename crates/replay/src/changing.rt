@@ -46,13 +46,6 @@ pub struct Asked {
     pub rest: Cursor,
 }
 
-fn termination(hit: u64) -> RayTermination {
-    if hit == 1 {
-        return RayTermination::Hit;
-    }
-    RayTermination::MaxRange
-}
-
 fn update_ray(map: Map, odds: &mut [f64], stamps: &mut [u32], beam: ScanBeam3) -> CountAnswer {
     match map {
         Map::Nothing => CountAnswer::Refused(Refusal::Buffer),
@@ -85,7 +78,7 @@ fn ray(line: &[u8], c: Cursor, map: Map, odds: &mut [f64], stamps: &mut [u32]) -
     let beam = ScanBeam3 {
         origin,
         endpoint,
-        termination: termination(hit.value),
+        termination: RayTermination(hit.value == 1),
     };
     let asked = expect_text(line, agreed(hit.rest, hit.value < 2), b"=");
     expect_count(line, asked, update_ray(map, odds, stamps, beam))

@@ -1,16 +1,15 @@
-// Vertical beams, from C: the entry of its name in vertical; only the answer's form, and the beam's, is another.
+// Vertical beams, from C: the entry of its name in vertical; only the answer's form is another.
 ghost use mathlib.Core.Path.{_≡_};
 ghost use lib.Ieee.{binary64};
 ghost use Rattle.rules.specs.VerticalBeam.{updateVerticalEntry};
+ghost use Rattle.types.specs.Beams.{vertical};
 ghost use Rattle.marks.specs.Marking.{gridOf};
 ghost use Rattle.grid_map.specs.Heads.{head3};
 ghost use Rattle.c_types.specs.Answers.{Told, cCount};
-ghost use Rattle.c_types.specs.Beams.{cVertical};
 use c_types::CCountAnswer;
-use c_types::CVerticalBeam;
 use c_types::count_to_c;
-use c_types::vertical_from_c;
 use grid_map::GridMap3;
+use types::VerticalBeam;
 use vertical::update_vertical3;
 
 #[no_mangle]
@@ -18,11 +17,11 @@ pub extern "C" fn tembuzar_update_vertical3(
     map: GridMap3,
     odds: &mut [f64],
     stamps: &mut [u32],
-    beam: CVerticalBeam,
+    beam: VerticalBeam,
 ) -> CCountAnswer
     ensures { λ r. ⌜ Told cCount
-        (updateVerticalEntry binary64 (head3 map) (cVertical beam) (gridOf (now (odds .entry)) (now (stamps .entry))))
+        (updateVerticalEntry binary64 (head3 map) (vertical beam) (gridOf (now (odds .entry)) (now (stamps .entry))))
         r (gridOf (now (odds .exit)) (now (stamps .exit))) ⌝ }
 {
-    count_to_c(update_vertical3(map, odds, stamps, vertical_from_c(beam)))
+    count_to_c(update_vertical3(map, odds, stamps, beam))
 }

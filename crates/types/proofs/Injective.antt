@@ -2,7 +2,7 @@
 -- fixes the answer. Each map has a way back, and one law does the rest. Answers and refusals are in `InjectiveAnswers`. Assumes nothing.
 use Prim.Native.Nat.{ℕ}
 use mathlib.Core.Path.{_≡_, refl, sym, ap, _∙_}
-use mathlib.Core.Bool.{Bool, true, false}
+use mathlib.Core.Bool.{Bool}
 use mathlib.Core.List.{List}
 use lib.IntN.{ℤ, pos}
 use lib.ListN.{getD}
@@ -30,11 +30,10 @@ use Rattle.types.specs.declared.beams.VerticalBeam.{VerticalBeam}
 use Rattle.types.specs.declared.beams.Clipped2.{Clipped2}
 use Rattle.types.specs.declared.beams.Clipped3.{Clipped3}
 use Rattle.types.specs.declared.beams.RayTermination.{RayTermination}
-use Rattle.types.specs.declared.beams.RayTermination.the-variants.{Hit, MaxRange}
 use Rattle.types.specs.Points.{point2, point3, vector2, vector3, cell2, cell3, extents2, extents3}
 use Rattle.types.specs.Models.{modelOf, bandsOf}
 use Rattle.types.specs.Samples.{sample2, sample3}
-use Rattle.types.specs.Beams.{isHit, beam2, beam3, vertical, clipped2, clipped3}
+use Rattle.types.specs.Beams.{beam2, beam3, vertical, clipped2, clipped3}
 
 abbrev pub Injective : {A B : Type 0} → (A → B) → Type 0
 Injective {A} f = (a b : A) → f a ≡ f b → a ≡ b
@@ -142,33 +141,22 @@ pub clipped3-injective : Injective clipped3
 clipped3-injective = of-back clipped3 clipped3-back (λ a. refl)
 
 abbrev pub hit-back : Bool → RayTermination
-hit-back true = Hit
-hit-back false = MaxRange
-
-hit-there : (t : RayTermination) → hit-back (isHit t) ≡ t
-hit-there Hit = refl
-hit-there MaxRange = refl
+hit-back hit = record { 0 = hit }
 
 abbrev pub beam2-back : Beam.Beam → ScanBeam2
 beam2-back b = record { origin = point2-back (b .origin); endpoint = point2-back (b .endpoint); termination = hit-back (b .hit) }
 
 pub beam2-injective : Injective beam2
-beam2-injective =
-    of-back beam2 beam2-back
-    (λ b. ap (λ (t : RayTermination). record { origin = b .origin; endpoint = b .endpoint; termination = t }) (hit-there (b .termination)))
+beam2-injective = of-back beam2 beam2-back (λ a. refl)
 
 abbrev pub beam3-back : Beam.Beam → ScanBeam3
 beam3-back b = record { origin = point3-back (b .origin); endpoint = point3-back (b .endpoint); termination = hit-back (b .hit) }
 
 pub beam3-injective : Injective beam3
-beam3-injective =
-    of-back beam3 beam3-back
-    (λ b. ap (λ (t : RayTermination). record { origin = b .origin; endpoint = b .endpoint; termination = t }) (hit-there (b .termination)))
+beam3-injective = of-back beam3 beam3-back (λ a. refl)
 
 abbrev pub vertical-back : Vertical.Vertical → VerticalBeam
 vertical-back b = record { x = b .x; y = b .y; bottom = b .bottom; top = b .top; termination = hit-back (b .hit) }
 
 pub vertical-injective : Injective vertical
-vertical-injective =
-    of-back vertical vertical-back
-    (λ b. ap (λ (t : RayTermination). record { x = b .x; y = b .y; bottom = b .bottom; top = b .top; termination = t }) (hit-there (b .termination)))
+vertical-injective = of-back vertical vertical-back (λ a. refl)

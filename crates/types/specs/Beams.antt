@@ -1,9 +1,8 @@
 -- Beams and clipped segments as the rules'. Definitions only.
-use mathlib.Core.Bool.{Bool, true, false}
+use mathlib.Core.Bool.{Bool}
 use Rattle.rules.specs.OneBeam as Beam
 use Rattle.rules.specs.VerticalBeam as Vertical
 use Rattle.types.specs.declared.beams.RayTermination.{RayTermination}
-use Rattle.types.specs.declared.beams.RayTermination.the-variants.{Hit, MaxRange}
 use Rattle.types.specs.declared.beams.ScanBeam2.{ScanBeam2}
 use Rattle.types.specs.declared.beams.ScanBeam3.{ScanBeam3}
 use Rattle.types.specs.declared.beams.VerticalBeam.{VerticalBeam}
@@ -12,8 +11,7 @@ use Rattle.types.specs.declared.beams.Clipped3.{Clipped3}
 use Rattle.types.specs.Points.{point2, point3}
 
 abbrev pub isHit : RayTermination → Bool
-isHit Hit = true
-isHit MaxRange = false
+isHit t = t .0
 
 abbrev pub beam2 : ScanBeam2 → Beam.Beam
 beam2 b = record { origin = point2 (b .origin); endpoint = point2 (b .endpoint); hit = isHit (b .termination) }

@@ -5,7 +5,6 @@ ghost use Rattle.rules.specs.VerticalBeam.{inProfile, endsOccupied, cellsAbove}
 ghost use Rattle.types.specs.Beams.{vertical};
 ghost use Rattle.types.specs.Points.{extents3};
 use types::Extents3;
-use types::RayTermination;
 use types::VerticalBeam;
 
 // All cells on the grid, and the top not below the bottom; the extent itself is a top height too.
@@ -44,8 +43,8 @@ pub fn ends_occupied(extents: Extents3, beam: VerticalBeam) -> bool
     ensures { λ r. ⌜ r ≡ endsOccupied (extents3 extents) (vertical beam) ⌝ }
 {
     let termination = beam.termination;
-    match termination {
-        RayTermination::Hit => beam.top < extents.z,
-        RayTermination::MaxRange => false,
+    if termination.0 {
+        return beam.top < extents.z;
     }
+    false
 }

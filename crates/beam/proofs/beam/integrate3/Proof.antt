@@ -23,9 +23,6 @@ enum-told c = search needs
 enum-known-clip : tie.Need-enum-known-clip
 enum-known-clip c = search needs
 
-is-hit-requires : tie.Need-is-hit-requires
-is-hit-requires c κs = search needs
-
 integrate-clipped3-requires : tie.Need-integrate-clipped3-requires
 integrate-clipped3-requires c κs = search needs
 
@@ -33,7 +30,7 @@ returns : tie.Need-returns
 unfolding integratedBeam beamMarks
 returns c =
     let tried = sym (ap tried3 (c .enum-told .given .1)) ∙ c .before .before .clip-beam3 .ensures in
-    let a = c .before .before .before .before .before .before .before .args in
+    let a = c .before .before .before .before .before .before .before .before .args in
     let origin = point3 (a .beam .origin) in
     let endpoint = point3 (a .beam .endpoint) in
     rw (not-finite (allFinite origin && allFinite endpoint) (clip binary64 (extents3 (a .map .extents)) origin endpoint) tried)
@@ -48,13 +45,13 @@ same-length-2 c = search needs
 returns-2 : tie.Need-returns-2
 unfolding integratedBeam beamMarks
 returns-2 c =
-    let tried = sym (ap tried3 (c .before .before .before .before .before .before .before .before .before .clip .given .1)) ∙ c .before .before .before .before .before .before .before .before .before .before .before .clip-beam3 .ensures in
+    let tried = sym (ap tried3 (c .before .before .before .before .before .before .before .before .clip .given .1)) ∙ c .before .before .before .before .before .before .before .before .before .before .clip-beam3 .ensures in
     let a = c .before .before .before .before .before .before .before .before .before .before .before .before .before .before .before .before .args in
     let origin = point3 (a .beam .origin) in
     let endpoint = point3 (a .beam .endpoint) in
     let finite = allFinite origin && allFinite endpoint in
     let whole = clip binary64 (extents3 (a .map .extents)) origin endpoint in
-    rw (is-finite finite whole _ tried, ← clip-is finite whole _ tried, ← c .before .before .before .before .before .is-hit .ensures) (c .before .before .before .before .integrate-clipped3 .ensures)
+    rw (is-finite finite whole _ tried, ← clip-is finite whole _ tried) (c .before .before .before .before .integrate-clipped3 .ensures)
 
 pub integrate3-spec : {M : Type 1} → statement M
 integrate3-spec =
@@ -63,7 +60,6 @@ integrate3-spec =
     clip-beam3-requires
     enum-told
     enum-known-clip
-    is-hit-requires
     integrate-clipped3-requires
     returns
     same-length

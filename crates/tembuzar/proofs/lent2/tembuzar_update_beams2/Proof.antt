@@ -43,7 +43,9 @@ use denote.Exit.{yes}
 use denote.Signature.{plain}
 use Rattle.rules.specs.RefusalNumbers.Entries.{updateBeamsEntry}
 use Rattle.types.specs.Answers.{countAnswer}
+use Rattle.types.specs.declared.beams.ScanBeam2.{ScanBeam2}
 use Rattle.types.specs.declared.answers.CountAnswer.{CountAnswer}
+use Rattle.types.proofs.beams.ScanBeam2 as B
 use Rattle.types.proofs.answers.CountAnswer as N
 use Rattle.types.proofs.answers.CountAnswer.Laws as N′
 use Rattle.grid_map.specs.Heads.{head2}
@@ -54,9 +56,7 @@ use Rattle.marks.specs.Marking.{gridOf}
 use Rattle.beam.specs.Applying.{countOutcome}
 use Rattle.lent.proofs.Pieces.{typeAt}
 use Rattle.c_types.specs.Answers.{Told, cCount}
-use Rattle.c_types.specs.declared.beams.CBeam2.{CBeam2}
 use Rattle.c_types.specs.declared.answers.CCountAnswer.{CCountAnswer}
-use Rattle.c_types.proofs.beams.CBeam2 as B
 use Rattle.c_types.proofs.answers.CCountAnswer as R
 use Rattle.c_types.proofs.answers.CCountAnswer.Laws as R′
 use Rattle.c_types.proofs.Telling.{told}
@@ -64,11 +64,11 @@ use Rattle.c_types.proofs.count_to_c as convert
 use Rattle.c_types.proofs.count_to_c.Symbol as convert-def
 use Rattle.c_types.proofs.count_to_c.Symbol.{name as #convert}
 use Rattle.c_types.proofs.count_to_c.Met as convert-thm
-use Rattle.c_lent.specs.CBeams.{cBeams2}
-use Rattle.c_lent.proofs.update_beams2 as update
-use Rattle.c_lent.proofs.update_beams2.Symbol as update-def
-use Rattle.c_lent.proofs.update_beams2.Symbol.{name as #update}
-use Rattle.c_lent.proofs.update_beams2.Met as update-thm
+use Rattle.lent.specs.LentBeams.{beams2}
+use Rattle.lent.proofs.update_beams2 as update
+use Rattle.lent.proofs.update_beams2.Symbol as update-def
+use Rattle.lent.proofs.update_beams2.Symbol.{name as #update}
+use Rattle.lent.proofs.update_beams2.Met as update-thm
 use Rattle.tembuzar.proofs.lent2.tembuzar_update_beams2.Key.{name as #tembuzar-update-beams2}
 use Rattle.tembuzar.proofs.lent2.tembuzar_update_beams2 as f
 use Rattle.tembuzar.proofs.lent2.tembuzar_update_beams2.Statement as stated
@@ -105,7 +105,7 @@ tyAt k = typeAt mirs.locals k
 
 module _ {M : Type 1} (𝓤 : URA M) (H : Heap 𝓤) (A : Atoms 𝓤) (W : Given 𝓤 H A) (at-mem : Memory → SProp 𝓤) (run : Routine → Fun 𝓤)
     (κ₀ κ₁ κ₂ : Lft) (bounds : AllOutlive 3 (f.signature .outlives) (κ₀, (κ₁, (κ₂, tt)))) (q₀ q₁ q₂ : Share) (h : GridMap2) (was : Is T.the-row h (mach h ∷ []))
-    (b₀ o₀ : ℕ) (γ₀ : GName) (ys : List Float) (b₁ o₁ : ℕ) (γ₁ : GName) (ts : List ℕ) (b o : ℕ) (γ : GName) (bs : List CBeam2)
+    (b₀ o₀ : ℕ) (γ₀ : GName) (ys : List Float) (b₁ o₁ : ℕ) (γ₁ : GName) (ts : List ℕ) (b o : ℕ) (γ : GName) (bs : List ScanBeam2)
     (room₀ : Room f64 (length ys)) (room₁ : Room u32 (length ts)) (roomb : Room B.the-row (length bs)) where
   abbrev x₀ : RefT (List Float)
   x₀ = record { ptr = (b₀, o₀); name = γ₀; now = ys }
@@ -113,7 +113,7 @@ module _ {M : Type 1} (𝓤 : URA M) (H : Heap 𝓤) (A : Atoms 𝓤) (W : Given
   abbrev x₁ : RefT (List ℕ)
   x₁ = record { ptr = (b₁, o₁); name = γ₁; now = ts }
 
-  abbrev xb : RefT (List CBeam2)
+  abbrev xb : RefT (List ScanBeam2)
   xb = record { ptr = (b, o); name = γ; now = bs }
 
   abbrev s₀ : Val
@@ -126,7 +126,7 @@ module _ {M : Type 1} (𝓤 : URA M) (H : Heap 𝓤) (A : Atoms 𝓤) (W : Given
   sb = sliceVal (b, o) (length bs)
 
   abbrev Arg : Type 0
-  Arg = GridMap2 × (RefT (List Float) × (RefT (List ℕ) × (RefT (List CBeam2) × Unit {0})))
+  Arg = GridMap2 × (RefT (List Float) × (RefT (List ℕ) × (RefT (List ScanBeam2) × Unit {0})))
 
   abbrev a : Arg
   a = (h, (x₀, (x₁, (xb, tt))))
@@ -165,13 +165,13 @@ module _ {M : Type 1} (𝓤 : URA M) (H : Heap 𝓤) (A : Atoms 𝓤) (W : Given
 
   -- what each contract says: the two that are cited, and this function's
   abbrev Updated : CountAnswer → List Float → List ℕ → Type 0
-  Updated r zs ss = countOutcome r zs ss ≡ updateBeamsEntry binary64 (head2 h) (cBeams2 bs) (gridOf ys ts)
+  Updated r zs ss = countOutcome r zs ss ≡ updateBeamsEntry binary64 (head2 h) (beams2 bs) (gridOf ys ts)
 
   abbrev Converted : CountAnswer → CCountAnswer → Type 0
   Converted r s = s ≡ cCount (countAnswer r)
 
   abbrev Ends : CCountAnswer → List Float → List ℕ → Type 0
-  Ends s zs ss = Told cCount (updateBeamsEntry binary64 (head2 h) (cBeams2 bs) (gridOf ys ts)) s (gridOf zs ss)
+  Ends s zs ss = Told cCount (updateBeamsEntry binary64 (head2 h) (beams2 bs) (gridOf ys ts)) s (gridOf zs ss)
 
   exits : (s : CCountAnswer) (zs : List Float) (ss : List ℕ) → Is R.the-row s (struct s ∷ []) → Ends s zs ss → length zs ≡ length ys → length ss ≡ length ts
       → ent 𝓤 (⋆ 𝓤 H A (Left zs ss)) (Post (struct s))
@@ -285,5 +285,5 @@ tembuzar-update-beams2-spec 𝓤 H 𝓜 𝓖 𝓡 =
     entered 𝓤 H (tripleOf 𝓤 H (𝓖 .A) f.signature (f.spec 𝓤 H (𝓖 .A) (𝓜 .mem) (𝓡 .run)))
     (tables 𝓤 H 𝓜 𝓡 code.env .C) (tables 𝓤 H 𝓜 𝓡 code.env .Λ) #tembuzar-update-beams2 code.function (code.unfolded 𝓤 H 𝓜 𝓡)
     (tembuzar-update-beams2-meets 𝓤 H (𝓖 .A) (givenOf 𝓤 H 𝓜 𝓖) (𝓜 .mem) (𝓡 .run) (tablesOf 𝓤 H 𝓜 (tables 𝓤 H 𝓜 𝓡 code.env))
-    (cited 𝓤 H (Update 𝓤 H (𝓖 .A) (𝓜 .mem) (𝓡 .run)) 𝓜 𝓡 code.env #update update-def.routine code.calls-c-lent·update-beams2 (update-thm.met 𝓤 H 𝓜 𝓖 𝓡))
+    (cited 𝓤 H (Update 𝓤 H (𝓖 .A) (𝓜 .mem) (𝓡 .run)) 𝓜 𝓡 code.env #update update-def.routine code.calls-lent·update-beams2 (update-thm.met 𝓤 H 𝓜 𝓖 𝓡))
     (cited 𝓤 H (Convert 𝓤 H (𝓖 .A) (𝓜 .mem) (𝓡 .run)) 𝓜 𝓡 code.env #convert convert-def.routine code.calls-c-types·count-to-c (convert-thm.met 𝓤 H 𝓜 𝓖 𝓡)))

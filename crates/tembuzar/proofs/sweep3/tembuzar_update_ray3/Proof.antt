@@ -5,9 +5,6 @@ use Rattle.c_types.specs.Answers.{cCount}
 use Rattle.tembuzar.proofs.sweep3.tembuzar_update_ray3.Statement.{statement}
 use Rattle.tembuzar.proofs.sweep3.tembuzar_update_ray3.Tie as tie
 
-beam3-from-c-requires : tie.Need-beam3-from-c-requires
-beam3-from-c-requires c κs = search needs
-
 update-ray-requires : tie.Need-update-ray-requires
 update-ray-requires c κs = search needs
 
@@ -21,13 +18,12 @@ same-length-2 : tie.Need-same-length-2
 same-length-2 c = search needs
 
 returns : tie.Need-returns
-returns c = told cCount _ _ _ (c .count-to-c .ensures) (rw (c .before .before .before .before .before .before .beam3-from-c .ensures) at (c .before .before .before .before .before .update-ray .ensures))
+returns c = told cCount _ _ _ (c .count-to-c .ensures) (c .before .before .before .before .before .update-ray .ensures)
 
 pub tembuzar-update-ray3-spec : {M : Type 1} → statement M
 tembuzar-update-ray3-spec =
     tie.close
     (tie.spec
-    beam3-from-c-requires
     update-ray-requires
     count-to-c-requires
     same-length

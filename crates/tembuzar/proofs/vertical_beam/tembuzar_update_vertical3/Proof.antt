@@ -5,9 +5,6 @@ use Rattle.c_types.specs.Answers.{cCount}
 use Rattle.tembuzar.proofs.vertical_beam.tembuzar_update_vertical3.Statement.{statement}
 use Rattle.tembuzar.proofs.vertical_beam.tembuzar_update_vertical3.Tie as tie
 
-vertical-from-c-requires : tie.Need-vertical-from-c-requires
-vertical-from-c-requires c κs = search needs
-
 update-vertical3-requires : tie.Need-update-vertical3-requires
 update-vertical3-requires c κs = search needs
 
@@ -21,13 +18,12 @@ same-length-2 : tie.Need-same-length-2
 same-length-2 c = search needs
 
 returns : tie.Need-returns
-returns c = told cCount _ _ _ (c .count-to-c .ensures) (rw (c .before .before .before .before .before .before .vertical-from-c .ensures) at (c .before .before .before .before .before .update-vertical3 .ensures))
+returns c = told cCount _ _ _ (c .count-to-c .ensures) (c .before .before .before .before .before .update-vertical3 .ensures)
 
 pub tembuzar-update-vertical3-spec : {M : Type 1} → statement M
 tembuzar-update-vertical3-spec =
     tie.close
     (tie.spec
-    vertical-from-c-requires
     update-vertical3-requires
     count-to-c-requires
     same-length
