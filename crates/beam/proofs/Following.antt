@@ -26,13 +26,13 @@ pub record Along (h : Head) (line : Line) (odds₀ : List Float) (stamps₀ : Li
     : Type 0 where
   pub begun : Begun h line odds₀ stamps₀ rest odds stamps count
   pub left : remaining ≡ rest .remaining
-  pub followed : AllFollowed cells (rest .axes)
+  pub followed : AllFollowed binary64 cells (rest .axes)
 
 pub on-a-map : (n extent : ℕ) → n < extent → extent ≤ mostExtent → n ≤ mostExtent
 on-a-map n extent h g = omega arith
 
 module _ (h : Head) (line : Line) (odds₀ : List Float) (stamps₀ : List ℕ) where
-  pub starts : (cells : List ℕ) → Ready h (length odds₀) (length stamps₀) → Drawn line → AllFollowed cells (line .axes)
+  pub starts : (cells : List ℕ) → Ready h (length odds₀) (length stamps₀) → Drawn line → AllFollowed binary64 cells (line .axes)
       → Along h line odds₀ stamps₀ cells line odds₀ stamps₀ 0 (line .remaining)
   starts cells r d f = record { begun = record { drawn = d; walked = λ last. not-started h last line odds₀ stamps₀ r }; left = refl; followed = f }
 
@@ -47,14 +47,14 @@ module _ (h : Head) (line : Line) (odds₀ : List Float) (stamps₀ : List ℕ) 
 
     pub follows : (cells′ : List ℕ) (after : Line) (at n : ℕ) (odds′ : List Float) (stamps′ : List ℕ) → 1 < remaining → AllSmall cells
         → flatIndex (h .extents) (map pos cells) ≡ given at → Applied (one at false) (h .model) (h .frame) odds stamps n odds′ stamps′
-        → after ≡ lineAfter binary64 rest → AllFollowed cells′ (axesAfter binary64 0 (rest .primary) (rest .threshold) (rest .axes))
+        → after ≡ lineAfter binary64 rest → AllFollowed binary64 cells′ (axesAfter binary64 0 (rest .primary) (rest .threshold) (rest .axes))
         → Along h line odds₀ stamps₀ cells′ after odds′ stamps′ (count + n) (after .remaining)
     follows cells′ after at n odds′ stamps′ more small found marked moved f =
         let e = a .left in
         let b = goes-free h line odds₀ stamps₀ rest odds stamps count (a .begun) at n odds′ stamps′ (omega arith)
-        (rw (followed-cells cells (rest .axes) (a .followed) small) found) marked in
+        (rw (followed-cells binary64 cells (rest .axes) (a .followed) small) found) marked in
         record {
           begun = subst (λ (l : Line). Begun h line odds₀ stamps₀ l odds′ stamps′ (count + n)) (sym moved) b;
           left = refl;
-          followed = subst (λ (l : Line). AllFollowed cells′ (l .axes)) (sym moved) f;
+          followed = subst (λ (l : Line). AllFollowed binary64 cells′ (l .axes)) (sym moved) f;
         }

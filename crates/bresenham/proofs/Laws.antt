@@ -1,14 +1,15 @@
--- A line over any number of axes, by what the code's tests found: a step by what remains and which axis is primary, and the plotter
--- by the first delta that is not finite. Assumes nothing.
+-- A line over any number of axes, in every format, by what the code's tests found: a step by what remains and which axis is primary, a delta by its
+-- sign, and the plotter by the first delta that is not finite. Assumes nothing.
 use Prim.Native.Nat.{ℕ, suc, _^_, _≤_, _<_}
 use mathlib.Core.Path.{_≡_, refl, sym, ap, _∙_}
-use mathlib.Core.Bool.{Bool, true, false, not}
+use mathlib.Core.Bool.{Bool, true, false, not, cond}
 use mathlib.Core.List.{List, [], _∷_}
 use native.Mathlib.Omega.{arith}
 use lib.IntN.{ℤ}
 use lib.ListN.{length}
 use lib.Signed.{mag}
-use lib.Ieee.{Float, Format}
+use lib.Ieee.{Float, Format, sub, neg, lt, eq}
+use lib.Ieee.Fits.{sub-fits}
 use lib.Ieee.Scale.{finite}
 use borrow.Author.Tests.{eq-eqb, ne-eqb, le-leb, lt-leb, not-true, not-false}
 use mir.Syntax.{w64}
@@ -18,6 +19,7 @@ use Rattle.rules.specs.Floats.{zeroF, allFinite}
 use Rattle.rules.specs.RefusalNumbers.{given, refused, ray}
 use Rattle.rules.specs.TheLine.{Line, Primary, none, stepOf, lastStep, earlierStep}
 use Rattle.rules.specs.TheLine.{delta, deltas, larger, primaryFrom, primaryOf, lineBetween, plotter}
+use Rattle.floats.proofs.Sizes.{sized}
 
 module _ (f : Format) (l : Line) where
   pub over : l .remaining ≡ 0 → none ≡ stepOf f l
@@ -35,6 +37,15 @@ module _ (f : Format) (l : Line) where
   pub goes : l .primary < length (l .axes) → (l .remaining ≡ 0 → ⊥) → (l .remaining ≡ 1 → ⊥) → earlierStep f l ≡ stepOf f l
   unfolding stepOf
   goes p n m = simp (ne-eqb _ _ n, lt-leb _ _ p, ne-eqb _ _ m)
+
+-- how far it is along an axis: z is the code's zero, s what it chose by the sign, and r by the zero
+pub delta-is : (f : Format) (x y : Float) {z s r : Float} → z ≡ zeroF → s ≡ cond (lt (sub f y x) z) (neg (sub f y x)) (sub f y x) → r ≡ cond (eq (sub f y x) z) z s
+    → r ≡ delta f x y
+unfolding delta
+delta-is f x y {z} o p q =
+    q ∙ ap (λ (v : Float). cond (eq (sub f y x) z) z v) p
+    ∙ ap (λ (v : Float). cond (eq (sub f y x) v) v (cond (lt (sub f y x) v) (neg (sub f y x)) (sub f y x))) o
+    ∙ sized f (sub f y x) (sub-fits f y x)
 
 module _ (f : Format) where
   -- the deltas up to the first that is not finite: d is the code's delta, and r what its test of d answered

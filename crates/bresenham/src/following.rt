@@ -14,8 +14,8 @@ use floats::NOT_FOLLOWED;
 // The cell one step on, up or down. Below cell 0 a coordinate is no longer followed. The cell is one of a grid's, and the coordinate in it:
 // the walk has tested the one and keeps the other.
 fn cell_beside(cell: u64, current: f64, step: f64) -> u64
-    requires { ⌜ cell ≤ mostExtent ⌝ ∗ ⌜ Inside cell current ⌝ ∗ ⌜ WholeStep step ⌝ }
-    ensures { λ r. ⌜ Followed r (add binary64 current step) ⌝ }
+    requires { ⌜ cell ≤ mostExtent ⌝ ∗ ⌜ Inside binary64 cell current ⌝ ∗ ⌜ WholeStep step ⌝ }
+    ensures { λ r. ⌜ Followed binary64 r (add binary64 current step) ⌝ }
 {
     if step > 0.0 {
         return cell + 1;
@@ -28,8 +28,8 @@ fn cell_beside(cell: u64, current: f64, step: f64) -> u64
 
 // The cell of axis number `k` after a step of the line; cell and coordinate as above.
 pub fn cell_after(cell: u64, a: Axis, k: u64, primary: u64, threshold: f64) -> u64
-    requires { ⌜ cell ≤ mostExtent ⌝ ∗ ⌜ Inside cell (a .current) ⌝ ∗ ⌜ WholeStep (a .step) ⌝ }
-    ensures { λ r. ⌜ Followed r (currentAfter binary64 k primary threshold (axis a)) ⌝ }
+    requires { ⌜ cell ≤ mostExtent ⌝ ∗ ⌜ Inside binary64 cell (a .current) ⌝ ∗ ⌜ WholeStep (a .step) ⌝ }
+    ensures { λ r. ⌜ Followed binary64 r (currentAfter binary64 k primary threshold (axis a)) ⌝ }
 {
     let beside = cell_beside(cell, a.current, a.step);
     if moves(a, k, primary, threshold) {

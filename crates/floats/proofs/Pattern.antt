@@ -16,6 +16,7 @@ use lib.Ieee.Exact.{HasValue, odd-sign}
 use lib.Ieee.Fits.{down-pos}
 use lib.Ieee.Nearest.{div-same}
 use borrow.Author.Tests.{eqb-true, lt-leb, le-leb}
+use Rattle.laws.specs.Floats.Sizes.{unsigned}
 use Rattle.floats.specs.Whole.{wholePart}
 use Rattle.floats.proofs.WholePart.{nothing-left, at-least}
 
@@ -102,3 +103,8 @@ module _ {A : Type 0} (to : Float → A) (kept : Bool → ℕ → A)
   by-pattern x s h n g =
       let f = by-fields x h in
       ap to f ∙ of-fields (signOf x) (exponentOf x) (fractionOf x) (fraction-lt x) (rw f at (no-nan x n)) ∙ ap (λ (b : Bool). kept b (wholePart (exponentOf x) (fractionOf x))) g
+
+-- ---- no sign
+pub no-sign : (x : Float) → fits binary64 x ≡ true → ne x x ≡ false → signOf x ≡ false → T (unsigned x)
+no-sign x f n g =
+    subst T (sym (by-pattern unsigned (λ (s : Bool) (w : ℕ). not s) (λ s m e. refl) (λ s w h. refl) x false f n g)) tt

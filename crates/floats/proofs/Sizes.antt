@@ -1,7 +1,7 @@
 -- |d| by what a comparison with zero finds, and what is finite by a comparison with the infinities. Assumes nothing.
 use Prim.Native.Nat.{ℕ, zero, suc, _+_, _*_, _^_, _<_}
 use mathlib.Core.Path.{_≡_, refl, sym, ap, _∙_, subst}
-use mathlib.Core.Bool.{true, false, _||_, Bool·beq}
+use mathlib.Core.Bool.{Bool, true, false, cond, _||_, Bool·beq}
 use native.Mathlib.Nat.{mul-pos, mul-one, one-mul, zero-mul, zero-lt-suc, pow-succ'}
 use native.Mathlib.Omega.{arith}
 use lib.IntN.{ℤ, pos, negsuc}
@@ -58,6 +58,15 @@ at-zero f (fin s zero e) t h = ap (λ (z : ℤ). fin false 0 z) (sym (flat e (eq
 at-zero f (fin s (suc m) e) t h =
     let z : size (suc m) e ≡ none e = eqb→eq _ _ (and-l (eqb (size (suc m) e) (none e)) (Bool·beq s false || eqb (size (suc m) e) 0) (subst T (sym h) tt)) in
     absurd (omega (arith, z, zero-mul (down e), mul-pos (zero-lt-suc m) (up-pos e)))
+
+-- |d| as the code chooses it, without a branch
+pub sized : (f : Format) (d : Float) → T (fits f d) → cond (eq d zeroF) zeroF (cond (lt d zeroF) (neg d) d) ≡ mag d
+sized f d t = go (lt d zeroF) (eq d zeroF) refl refl
+  where
+    go : (b e : Bool) → lt d zeroF ≡ b → eq d zeroF ≡ e → cond e zeroF (cond b (neg d) d) ≡ mag d
+    go b true p q = at-zero f d t q
+    go true false p q = below-zero d p
+    go false false p q = above-zero d p q
 
 pub finite-under : (x : Float) → lt x (inf false) ≡ true → lt (inf true) x ≡ finite x
 unfolding lt

@@ -123,7 +123,7 @@ pub const NOT_FOLLOWED: u64 = 18446744073709551615;
 // for all coordinates from +0.0 to below 4096 that lie at least 2^-20 below their cell's upper face. -0.0 has the sign of a number below zero, and is not followed.
 // As numbers, the 64 bits of such coordinates are those below 4096.0's; all others, signs and infinities too, are above.
 pub fn followed_cell(x: f64) -> u64
-    ensures { λ r. ⌜ Followed r x ⌝ }
+    ensures { λ r. ⌜ Followed binary64 r x ⌝ }
 {
     if x != x {
         return NOT_FOLLOWED;

@@ -10,7 +10,7 @@ use native.Mathlib.Omega.{arith}
 use lib.IntN.{ℤ, pos}
 use lib.Dec.{eqb}
 use lib.ListN.{length}
-use lib.Ieee.{Float, Format, binary64, add, sub, neg, le, lt}
+use lib.Ieee.{Float, Format, add, sub, neg, le, lt}
 use Rattle.rules.specs.Floats.{oneF, zeroF, allFinite}
 use Rattle.rules.specs.RefusalNumbers.{Answer, given, refused, ray}
 use Rattle.rules.specs.TheGridAndItsBounds.{mostExtent}
@@ -136,46 +136,46 @@ steps-kept f k p t [] h = tt
 steps-kept f k p t (a ∷ as′) h = (subst WholeStep (sym (step-kept f k p t a)) (h .0), steps-kept f (suc k) p t as′ (h .1))
 
 -- ---- a followed cell
-module _ (c : ℕ) (x s : Float) (small : c ≤ mostExtent) (i : Inside c x) (w : WholeStep s) where
-  pub followed-up : lt zeroF s ≡ true → Followed (c + 1) (add binary64 x s)
+module _ (f : Format) (c : ℕ) (x s : Float) (small : c ≤ mostExtent) (i : Inside f c x) (w : WholeStep s) where
+  pub followed-up : lt zeroF s ≡ true → Followed f (c + 1) (add f x s)
   unfolding lt neg
   followed-up t h = go w
     where
-      go : WholeStep s → Inside (c + 1) (add binary64 x s)
-      go (inl e) = rw (e, add-one) (inside-up c x small i)
+      go : WholeStep s → Inside f (c + 1) (add f x s)
+      go (inl e) = rw (e, add-one) (inside-up f c x small i)
       go (inr e) = absurd (true≢false (sym t ∙ ap (lt zeroF) e))
 
-  pub followed-down : lt zeroF s ≡ false → (c ≡ 0 → ⊥) → Followed (c - 1) (add binary64 x s)
+  pub followed-down : lt zeroF s ≡ false → (c ≡ 0 → ⊥) → Followed f (c - 1) (add f x s)
   unfolding lt neg
   followed-down t n h = go w
     where
-      before : (c : ℕ) → c ≤ mostExtent → (c ≡ 0 → ⊥) → Inside c x → Inside (c - 1) (add binary64 x (neg oneF))
+      before : (c : ℕ) → c ≤ mostExtent → (c ≡ 0 → ⊥) → Inside f c x → Inside f (c - 1) (add f x (neg oneF))
       before zero h n i = absurd (n refl)
-      before (suc c) h n i = subst (λ (n : ℕ). Inside n (add binary64 x (neg oneF))) (omega arith) (inside-down c x (omega arith) i)
+      before (suc c) h n i = subst (λ (n : ℕ). Inside f n (add f x (neg oneF))) (omega arith) (inside-down f c x (omega arith) i)
 
-      go : WholeStep s → Inside (c - 1) (add binary64 x s)
+      go : WholeStep s → Inside f (c - 1) (add f x s)
       go (inl e) = absurd (true≢false (sym (ap (lt zeroF) e) ∙ t))
       go (inr e) = rw e (before c small n i)
 
 -- each axis's cell is followed
-abbrev pub AllFollowed : List ℕ → List Axis → Type 0
-AllFollowed [] [] = Unit {0}
-AllFollowed [] (a ∷ as′) = ⊥
-AllFollowed (c ∷ cs) [] = ⊥
-AllFollowed (c ∷ cs) (a ∷ as′) = Followed c (a .current) × AllFollowed cs as′
+abbrev pub AllFollowed : Format → List ℕ → List Axis → Type 0
+AllFollowed f [] [] = Unit {0}
+AllFollowed f [] (a ∷ as′) = ⊥
+AllFollowed f (c ∷ cs) [] = ⊥
+AllFollowed f (c ∷ cs) (a ∷ as′) = Followed f c (a .current) × AllFollowed f cs as′
 
 abbrev pub AllSmall : List ℕ → Type 0
 AllSmall [] = Unit {0}
 AllSmall (c ∷ cs) = (c ≤ mostExtent) × AllSmall cs
 
 -- then nothing has to be truncated
-pub followed-cells : (cs : List ℕ) (as′ : List Axis) → AllFollowed cs as′ → AllSmall cs → truncatedPoint (currents as′) ≡ map pos cs
+pub followed-cells : (f : Format) (cs : List ℕ) (as′ : List Axis) → AllFollowed f cs as′ → AllSmall cs → truncatedPoint (currents as′) ≡ map pos cs
 unfolding truncatedPoint
-followed-cells [] [] h s = refl
-followed-cells [] (a ∷ as′) h s = absurd h
-followed-cells (c ∷ cs) [] h s = absurd h
-followed-cells (c ∷ cs) (a ∷ as′) h s =
-    ap₂ (λ (i : ℤ) (is : List ℤ). i ∷ is) (inside-truncated c (a .current) (s .0) (h .0 (s .0))) (followed-cells cs as′ (h .1) (s .1))
+followed-cells f [] [] h s = refl
+followed-cells f [] (a ∷ as′) h s = absurd h
+followed-cells f (c ∷ cs) [] h s = absurd h
+followed-cells f (c ∷ cs) (a ∷ as′) h s =
+    ap₂ (λ (i : ℤ) (is : List ℤ). i ∷ is) (inside-truncated f c (a .current) (s .0) (h .0 (s .0))) (followed-cells f cs as′ (h .1) (s .1))
 
 pub drawn-after : (f : Format) (l : Line) → Drawn l → Drawn (lineAfter f l)
 drawn-after f l d =

@@ -4,11 +4,12 @@ use mathlib.Core.Bool.{false}
 use native.Mathlib.Omega.{arith}
 use lib.Dec.{T}
 use borrow.Author.Needs.{needs}
+use lib.Ieee.{binary64}
 use Rattle.rules.specs.Floats.{numberF}
 use Rattle.floats.proofs.WholePart.{below}
-use Rattle.floats.proofs.Pattern.{exponentOf, fractionOf, fraction-lt, below-4096, exponent-below, no-nan}
+use Rattle.floats.proofs.Pattern.{exponentOf, fractionOf, fraction-lt, below-4096, exponent-below, no-nan, no-sign}
 use Rattle.floats.proofs.Ranges.{count-is, count-plus}
-use Rattle.floats.proofs.Following.{no-sign, followed}
+use Rattle.floats.proofs.Following.{followed}
 use Rattle.floats.proofs.followed_cell.Statement.{statement}
 use Rattle.floats.proofs.followed_cell.Tie as tie
 
@@ -44,7 +45,7 @@ returns-3 c h =
     let low = c .before .before .before .if2 .left in
     let s = below-4096 x low in
     let whole = c .before .before .whole-part .ensures in
-    followed _ x h (no-sign x (a .good .0 .1) n s)
+    followed binary64 _ x h (no-sign x (a .good .0 .1) n s)
     (whole ∙ count-plus _ (below (exponentOf x) (fractionOf x) 64 (fraction-lt x) (omega (arith, exponent-below x low))) ∙ sym (count-is x false (a .good .0 .1) n s))
     (subst T (sym (c .if3 .taken)) tt)
 

@@ -1,5 +1,6 @@
 -- Field by field what the calls ensure.
 use borrow.Author.Needs.{needs}
+use lib.Ieee.{binary64}
 use Rattle.rules.specs.TheLine.{axisOf}
 use Rattle.laws.specs.Literals.{zero-is}
 use Rattle.bresenham.proofs.axis.axis_of.Statement.{statement}
@@ -16,7 +17,7 @@ step-to-requires c κs = search needs
 
 returns : tie.Need-returns
 unfolding axisOf
-returns c = simp (zero-is, c .step-to .ensures, c .before .increment .ensures, c .before .before .delta .ensures)
+returns c = simp (zero-is binary64, c .step-to .ensures, c .before .increment .ensures, c .before .before .delta .ensures)
 
 pub axis-of-spec : {M : Type 1} → statement M
 axis-of-spec = tie.close (tie.spec delta-requires increment-requires step-to-requires returns)

@@ -1,5 +1,6 @@
 -- The call's count, at the code's one.
 use borrow.Author.Needs.{needs}
+use lib.Ieee.{binary64}
 use Rattle.rules.specs.TheLine.{cellsYielded}
 use Rattle.laws.specs.Literals.{one-is}
 use Rattle.bresenham.proofs.axis.cells_yielded.Statement.{statement}
@@ -10,7 +11,7 @@ count-of-requires c κs = search needs
 
 returns : tie.Need-returns
 unfolding cellsYielded
-returns c = simp (c .count-of .ensures, one-is)
+returns c = simp (c .count-of .ensures, one-is binary64)
 
 pub cells-yielded-spec : {M : Type 1} → statement M
 cells-yielded-spec = tie.close (tie.spec count-of-requires returns)

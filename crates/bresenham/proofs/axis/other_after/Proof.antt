@@ -1,5 +1,5 @@
 -- The test is the rule's own, and the literal its one.
-use lib.Ieee.{le}
+use lib.Ieee.{le, binary64}
 use Rattle.rules.specs.TheLine.{otherAfter}
 use Rattle.laws.specs.Literals.{one-is}
 use Rattle.bresenham.proofs.axis.other_after.Statement.{statement}
@@ -7,7 +7,7 @@ use Rattle.bresenham.proofs.axis.other_after.Tie as tie
 
 returns : tie.Need-returns
 unfolding otherAfter le
-returns c = simp (one-is, c .before .if1 .taken)
+returns c = simp (one-is binary64, c .before .if1 .taken)
 
 returns-2 : tie.Need-returns-2
 unfolding otherAfter

@@ -13,10 +13,10 @@ moves-requires : tie.Need-moves-requires
 moves-requires c κs = search needs
 
 returns : tie.Need-returns
-returns c = subst (Followed _) (moves-on _ _ _ _ _ (sym (c .before .moves .ensures) ∙ c .if1 .taken)) (c .before .before .cell-beside .ensures)
+returns c = subst (Followed _ _) (moves-on _ _ _ _ _ (sym (c .before .moves .ensures) ∙ c .if1 .taken)) (c .before .before .cell-beside .ensures)
 
 returns-2 : tie.Need-returns-2
-returns-2 c = λ h. subst (Followed _) (stands-still _ _ _ _ _ (sym (c .before .moves .ensures) ∙ c .if1 .left)) (λ g. c .before .before .before .pre .1 .0) h
+returns-2 c = λ h. subst (Followed _ _) (stands-still _ _ _ _ _ (sym (c .before .moves .ensures) ∙ c .if1 .left)) (λ g. c .before .before .before .pre .1 .0) h
 
 pub cell-after-spec : {M : Type 1} → statement M
 cell-after-spec = tie.close (tie.spec cell-beside-requires moves-requires returns returns-2)

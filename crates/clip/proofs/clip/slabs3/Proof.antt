@@ -1,6 +1,7 @@
 -- Each slab goes on from what the ones before left, and the first miss stands.
 use mathlib.Core.Path.{sym, ap, _∙_}
 use borrow.Author.Needs.{needs}
+use lib.Ieee.{binary64}
 use Rattle.rules.specs.OneBeam.{slabs}
 use Rattle.clip.specs.Spans.{passageOf}
 use Rattle.laws.specs.Literals.{zero-is, one-is}
@@ -31,15 +32,15 @@ slab-requires-3 c κs = search needs
 
 returns : tie.Need-returns
 unfolding slabs
-returns c = simp (sym (rw (zero-is, one-is) at (c .before .before .slab .ensures)) ∙ ap passageOf (c .enum-told .given .1))
+returns c = simp (sym (rw (zero-is binary64, one-is binary64) at (c .before .before .slab .ensures)) ∙ ap passageOf (c .enum-told .given .1))
 
 returns-2 : tie.Need-returns-2
 unfolding slabs
-returns-2 c = simp (sym (rw (zero-is, one-is) at (c .before .before .before .before .before .before .slab .ensures)) ∙ ap passageOf (c .before .before .before .before .s .given .1), sym (c .before .before .slab2 .ensures) ∙ ap passageOf (c .enum-told2 .given .1))
+returns-2 c = simp (sym (rw (zero-is binary64, one-is binary64) at (c .before .before .before .before .before .before .slab .ensures)) ∙ ap passageOf (c .before .before .before .before .s .given .1), sym (c .before .before .slab2 .ensures) ∙ ap passageOf (c .enum-told2 .given .1))
 
 returns-3 : tie.Need-returns-3
 unfolding slabs
-returns-3 c = simp (sym (rw (zero-is, one-is) at (c .before .before .before .before .before .before .before .before .slab .ensures)) ∙ ap passageOf (c .before .before .before .before .before .before .s .given .1), sym (c .before .before .before .before .slab2 .ensures) ∙ ap passageOf (c .before .before .t .given .1), last-slab, c .slab3 .ensures)
+returns-3 c = simp (sym (rw (zero-is binary64, one-is binary64) at (c .before .before .before .before .before .before .before .before .slab .ensures)) ∙ ap passageOf (c .before .before .before .before .before .before .s .given .1), sym (c .before .before .before .before .slab2 .ensures) ∙ ap passageOf (c .before .before .t .given .1), last-slab, c .slab3 .ensures)
 
 pub slabs3-spec : {M : Type 1} → statement M
 slabs3-spec =

@@ -15,15 +15,15 @@ nearest-u64-to-f64-requires c κs = search needs
 
 returns : tie.Need-returns
 unfolding slab numberF
-returns c = simp (rw zero-is at (c .before .if1 .taken), rw zero-is at (c .if2 .taken))
+returns c = simp (rw (zero-is binary64) at (c .before .if1 .taken), rw (zero-is binary64) at (c .if2 .taken))
 
 returns-2 : tie.Need-returns-2
 unfolding slab numberF
-returns-2 c = simp (← c .before .before .before .nearest-u64-to-f64 .ensures, rw zero-is at (c .before .before .if1 .taken), rw zero-is at (c .before .if2 .left), c .if3 .taken)
+returns-2 c = simp (← c .before .before .before .nearest-u64-to-f64 .ensures, rw (zero-is binary64) at (c .before .before .if1 .taken), rw (zero-is binary64) at (c .before .if2 .left), c .if3 .taken)
 
 returns-3 : tie.Need-returns-3
 unfolding slab numberF
-returns-3 c = simp (← c .before .before .before .nearest-u64-to-f64 .ensures, rw zero-is at (c .before .before .if1 .taken), rw zero-is at (c .before .if2 .left), c .if3 .left)
+returns-3 c = simp (← c .before .before .before .nearest-u64-to-f64 .ensures, rw (zero-is binary64) at (c .before .before .if1 .taken), rw (zero-is binary64) at (c .before .if2 .left), c .if3 .left)
 
 chosen-requires : tie.Need-chosen-requires
 chosen-requires c κs = search needs
@@ -43,10 +43,10 @@ returns-4 : tie.Need-returns-4
 unfolding slab numberF
 returns-4 c =
     let a = c .before .before .before .before .before .args in
-    let near = div binary64 (sub binary64 zero-code (a .origin)) (a .direction) in
+    let near = div binary64 (sub binary64 (zero-code binary64) (a .origin)) (a .direction) in
     let far = div binary64 (sub binary64 (c .before .before .before .before .nearest-u64-to-f64 .result) (a .origin)) (a .direction) in
     let k = c .cut-to .ensures ∙ exchanged (lt far near) near far _ _ (spanOf (a .s)) (c .before .before .chosen .ensures) (c .before .chosen2 .ensures) in
-    simp (← c .before .before .before .before .nearest-u64-to-f64 .ensures, rw zero-is at (c .before .before .before .if1 .left)) (rw zero-is at k)
+    simp (← c .before .before .before .before .nearest-u64-to-f64 .ensures, rw (zero-is binary64) at (c .before .before .before .if1 .left)) (rw (zero-is binary64) at k)
 
 pub slab-spec : {M : Type 1} → statement M
 slab-spec =

@@ -5,6 +5,7 @@ use native.Mathlib.Omega.{arith}
 use lib.ListN.{length}
 use borrow.Author.Needs.{needs}
 use denote.Ref.{now}
+use lib.Ieee.{binary64}
 use Rattle.rules.specs.Floats.{zeroF}
 use Rattle.laws.specs.Filling.{Filled, none-filled, one-more, all-filled}
 use Rattle.laws.specs.Literals.{zero-is}
@@ -37,7 +38,7 @@ loop-again c =
     let l = c .before .loop in
     let before = now (c .before .before .args .odds) in
     let h : l .i < length before = omega arith in
-    rw zero-is (one-more zeroF before _ (l .i) (l .inv) h)
+    rw (zero-is binary64) (one-more zeroF before _ (l .i) (l .inv) h)
 
 same-length : tie.Need-same-length Inv-loop μ-loop
 same-length c = c .before .loop .inv .size

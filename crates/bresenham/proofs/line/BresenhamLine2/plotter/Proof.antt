@@ -56,7 +56,7 @@ returns-3 c =
     let d = x .before .before in
     let a = d .before .before .args in
     ap given (c .between .ensures)
-    ∙ draws binary64 (point2 (a .start)) (point2 (a .end)) zero-code (primary (p .larger2 .result)) zero-is
+    ∙ draws binary64 (point2 (a .start)) (point2 (a .end)) (zero-code binary64) (primary (p .larger2 .result)) (zero-is binary64)
     (chooses binary64 0 _ _ _ _ _ (d .before .delta .ensures) (p .before .larger .ensures)
     (chooses binary64 1 _ _ _ _ _ (d .delta2 .ensures) (p .larger2 .ensures)
     (chosen binary64 2)))

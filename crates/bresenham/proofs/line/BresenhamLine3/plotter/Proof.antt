@@ -77,7 +77,7 @@ returns-4 c =
     let d = x .before .before in
     let a = d .before .before .before .args in
     ap given (c .between .ensures)
-    ∙ draws binary64 (point3 (a .start)) (point3 (a .end)) zero-code (primary (p .larger3 .result)) zero-is
+    ∙ draws binary64 (point3 (a .start)) (point3 (a .end)) (zero-code binary64) (primary (p .larger3 .result)) (zero-is binary64)
     (chooses binary64 0 _ _ _ _ _ (d .before .before .delta .ensures) (p .before .before .larger .ensures)
     (chooses binary64 1 _ _ _ _ _ (d .before .delta2 .ensures) (p .before .larger2 .ensures)
     (chooses binary64 2 _ _ _ _ _ (d .delta3 .ensures) (p .larger3 .ensures)
