@@ -1,10 +1,10 @@
--- Marks applied to the lent lists: none, one, and one list after another. Assumes nothing.
+-- Marks applied to the lent lists, in every format: none, one, and one list after another. Assumes nothing.
 use Prim.Native.Nat.{ℕ, _+_, _<_}
 use mathlib.Core.Bool.{Bool, true, false, cond}
 use mathlib.Core.List.{List, [], _++_}
 use mathlib.Core.Path.{_≡_, refl, sym, ap, ap₂, _∙_}
 use native.Mathlib.Omega.{arith}
-use lib.Ieee.{Float, binary64}
+use lib.Ieee.{Float, Format}
 use lib.ListN.{length, getD, set}
 use mir.Val.{boolByte}
 use Rattle.rules.specs.RefusalNumbers.{given}
@@ -21,19 +21,19 @@ as-counted : (b : Bool) → boolByte b ≡ cond b 1 0
 as-counted true = refl
 as-counted false = refl
 
-module _ (m : Model) (k : ℕ) where
-  pub none-applied : (odds : List Float) (stamps : List ℕ) → Applied [] m k odds stamps 0 odds stamps
+module _ (f : Format) (m : Model) (k : ℕ) where
+  pub none-applied : (odds : List Float) (stamps : List ℕ) → Applied f [] m k odds stamps 0 odds stamps
   unfolding marked changes
   none-applied odds stamps = record { count = refl; grid = refl; used = omega arith }
 
   pub one-applied : (occupied : Bool) (at : ℕ) (odds odds′ : List Float) (stamps stamps′ : List ℕ) (changed : Bool)
-      → at < length stamps → MarkedAt occupied (stepsAt m at) k at odds stamps changed odds′ stamps′
-      → Applied (one at occupied) m k odds stamps (boolByte changed) odds′ stamps′
+      → at < length stamps → MarkedAt f occupied (stepsAt m at) k at odds stamps changed odds′ stamps′
+      → Applied f (one at occupied) m k odds stamps (boolByte changed) odds′ stamps′
   unfolding marked changes markAt
   one-applied occupied at odds odds′ stamps stamps′ changed h d =
-      let r = markOn occupied (stepsAt m at) k at odds stamps in
+      let r = markOn f occupied (stepsAt m at) k at odds stamps in
       let c : boolByte changed ≡ cond (r .changed) 1 0 = as-counted changed ∙ ap (λ (b : Bool). cond b 1 0) (d .answer) in
-      let low = mark-lowers binary64 (stepsAt m at) k occupied (record { odds = getD odds at lib.Ieee.nan; stamp = getD stamps at 0 }) in
+      let low = mark-lowers f (stepsAt m at) k occupied (record { odds = getD odds at lib.Ieee.nan; stamp = getD stamps at 0 }) in
       let moved = room-set k stamps at (r .cell .stamp) h in
       let after : room k stamps′ ≡ room k (set stamps at (r .cell .stamp)) = ap (room k) (d .stamps-now) in
       record {
@@ -43,30 +43,30 @@ module _ (m : Model) (k : ℕ) where
       }
 
   pub both-applied : (xs ys : List Mark) (odds odds′ odds″ : List Float) (stamps stamps′ stamps″ : List ℕ) (a b : ℕ)
-      → Applied xs m k odds stamps a odds′ stamps′ → Applied ys m k odds′ stamps′ b odds″ stamps″
-      → Applied (xs ++ ys) m k odds stamps (a + b) odds″ stamps″
+      → Applied f xs m k odds stamps a odds′ stamps′ → Applied f ys m k odds′ stamps′ b odds″ stamps″
+      → Applied f (xs ++ ys) m k odds stamps (a + b) odds″ stamps″
   both-applied xs ys odds odds′ odds″ stamps stamps′ stamps″ a b p q =
-      let n = changes-append binary64 m k xs ys (gridOf odds stamps) in
-      let again : changes binary64 m k ys (gridOf odds′ stamps′) ≡ changes binary64 m k ys (marked binary64 m k xs (gridOf odds stamps)) =
-      ap (changes binary64 m k ys) (p .grid) in
+      let n = changes-append f m k xs ys (gridOf odds stamps) in
+      let again : changes f m k ys (gridOf odds′ stamps′) ≡ changes f m k ys (marked f m k xs (gridOf odds stamps)) =
+      ap (changes f m k ys) (p .grid) in
       let c = p .count in
       let d = q .count in
       let u = p .used in
       let v = q .used in
       record {
         count = omega arith;
-        grid = q .grid ∙ ap (marked binary64 m k ys) (p .grid) ∙ sym (marked-append binary64 m k xs ys (gridOf odds stamps));
+        grid = q .grid ∙ ap (marked f m k ys) (p .grid) ∙ sym (marked-append f m k xs ys (gridOf odds stamps));
         used = omega arith;
       }
 
 -- one mark, as the entries answer it
-pub mark-answered : (m : Model) (k at : ℕ) (occupied : Bool) (odds odds′ : List Float) (stamps stamps′ : List ℕ) (changed : Bool)
-    → MarkedAt occupied (stepsAt m at) k at odds stamps changed odds′ stamps′
+pub mark-answered : (f : Format) (m : Model) (k at : ℕ) (occupied : Bool) (odds odds′ : List Float) (stamps stamps′ : List ℕ) (changed : Bool)
+    → MarkedAt f occupied (stepsAt m at) k at odds stamps changed odds′ stamps′
     → _≡_ {A = Outcome Bool Grid} (record { answer = given changed; lent = gridOf odds′ stamps′ })
     (record {
-      answer = given (markAt binary64 m k (record { place = at; occupied = occupied }) (gridOf odds stamps) .changed);
-      lent = withCell (gridOf odds stamps) at (markAt binary64 m k (record { place = at; occupied = occupied }) (gridOf odds stamps) .cell);
+      answer = given (markAt f m k (record { place = at; occupied = occupied }) (gridOf odds stamps) .changed);
+      lent = withCell (gridOf odds stamps) at (markAt f m k (record { place = at; occupied = occupied }) (gridOf odds stamps) .cell);
     })
 unfolding markAt
-mark-answered m k at occupied odds odds′ stamps stamps′ changed d =
+mark-answered f m k at occupied odds odds′ stamps stamps′ changed d =
     ap₂ (λ (b : Bool) (g : Grid). record { answer = given b; lent = g }) (d .answer) (ap₂ gridOf (d .odds-now) (d .stamps-now))

@@ -1,10 +1,10 @@
--- A walk by whole numbers: what holds between its steps, over lines of any number of axes. Assumes nothing.
+-- A walk by whole numbers: what holds between its steps, over lines of any number of axes, in every format. Assumes nothing.
 use Prim.Native.Nat.{ℕ, _+_, _<_, _≤_}
 use mathlib.Core.List.{List, map}
 use mathlib.Core.Path.{_≡_, refl, sym, subst}
 use native.Mathlib.Omega.{arith}
 use mathlib.Core.Bool.{Bool, false}
-use lib.Ieee.{Float, binary64}
+use lib.Ieee.{Float, Format}
 use lib.IntN.{pos}
 use lib.ListN.{length}
 use mir.Val.{boolByte}
@@ -22,39 +22,39 @@ use Rattle.beam.specs.Walking.{Begun}
 use Rattle.beam.proofs.Applying.{one-applied}
 use Rattle.beam.proofs.Walking.{not-started, goes-free}
 
-pub record Along (h : Head) (line : Line) (odds₀ : List Float) (stamps₀ : List ℕ) (cells : List ℕ) (rest : Line) (odds : List Float) (stamps : List ℕ) (count remaining : ℕ)
+pub record Along (f : Format) (h : Head) (line : Line) (odds₀ : List Float) (stamps₀ : List ℕ) (cells : List ℕ) (rest : Line) (odds : List Float) (stamps : List ℕ) (count remaining : ℕ)
     : Type 0 where
-  pub begun : Begun h line odds₀ stamps₀ rest odds stamps count
+  pub begun : Begun f h line odds₀ stamps₀ rest odds stamps count
   pub left : remaining ≡ rest .remaining
-  pub followed : AllFollowed binary64 cells (rest .axes)
+  pub followed : AllFollowed f cells (rest .axes)
 
 pub on-a-map : (n extent : ℕ) → n < extent → extent ≤ mostExtent → n ≤ mostExtent
 on-a-map n extent h g = omega arith
 
-module _ (h : Head) (line : Line) (odds₀ : List Float) (stamps₀ : List ℕ) where
-  pub starts : (cells : List ℕ) → Ready h (length odds₀) (length stamps₀) → Drawn line → AllFollowed binary64 cells (line .axes)
-      → Along h line odds₀ stamps₀ cells line odds₀ stamps₀ 0 (line .remaining)
-  starts cells r d f = record { begun = record { drawn = d; walked = λ last. not-started h last line odds₀ stamps₀ r }; left = refl; followed = f }
+module _ (f : Format) (h : Head) (line : Line) (odds₀ : List Float) (stamps₀ : List ℕ) where
+  pub starts : (cells : List ℕ) → Ready h (length odds₀) (length stamps₀) → Drawn line → AllFollowed f cells (line .axes)
+      → Along f h line odds₀ stamps₀ cells line odds₀ stamps₀ 0 (line .remaining)
+  starts cells r d on = record { begun = record { drawn = d; walked = λ last. not-started f h last line odds₀ stamps₀ r }; left = refl; followed = on }
 
   module _ (cells : List ℕ) (rest : Line) (odds : List Float) (stamps : List ℕ) (count remaining : ℕ)
-      (a : Along h line odds₀ stamps₀ cells rest odds stamps count remaining) where
+      (a : Along f h line odds₀ stamps₀ cells rest odds stamps count remaining) where
     -- the cell's mark, counted
     pub counts : (at : ℕ) (odds′ : List Float) (stamps′ : List ℕ) (changed : Bool) → at < cellsOf (h .extents)
-        → MarkedAt false (stepsAt (h .model) at) (h .frame) at odds stamps changed odds′ stamps′
-        → Applied (one at false) (h .model) (h .frame) odds stamps (boolByte changed) odds′ stamps′
+        → MarkedAt f false (stepsAt (h .model) at) (h .frame) at odds stamps changed odds′ stamps′
+        → Applied f (one at false) (h .model) (h .frame) odds stamps (boolByte changed) odds′ stamps′
     counts at odds′ stamps′ changed lt marked =
-        one-applied (h .model) (h .frame) false at odds odds′ stamps stamps′ changed (rw (a .begun .walked false .ready .stamps-count) lt) marked
+        one-applied f (h .model) (h .frame) false at odds odds′ stamps stamps′ changed (rw (a .begun .walked false .ready .stamps-count) lt) marked
 
     pub follows : (cells′ : List ℕ) (after : Line) (at n : ℕ) (odds′ : List Float) (stamps′ : List ℕ) → 1 < remaining → AllSmall cells
-        → flatIndex (h .extents) (map pos cells) ≡ given at → Applied (one at false) (h .model) (h .frame) odds stamps n odds′ stamps′
-        → after ≡ lineAfter binary64 rest → AllFollowed binary64 cells′ (axesAfter binary64 0 (rest .primary) (rest .threshold) (rest .axes))
-        → Along h line odds₀ stamps₀ cells′ after odds′ stamps′ (count + n) (after .remaining)
-    follows cells′ after at n odds′ stamps′ more small found marked moved f =
+        → flatIndex (h .extents) (map pos cells) ≡ given at → Applied f (one at false) (h .model) (h .frame) odds stamps n odds′ stamps′
+        → after ≡ lineAfter f rest → AllFollowed f cells′ (axesAfter f 0 (rest .primary) (rest .threshold) (rest .axes))
+        → Along f h line odds₀ stamps₀ cells′ after odds′ stamps′ (count + n) (after .remaining)
+    follows cells′ after at n odds′ stamps′ more small found marked moved on =
         let e = a .left in
-        let b = goes-free h line odds₀ stamps₀ rest odds stamps count (a .begun) at n odds′ stamps′ (omega arith)
-        (rw (followed-cells binary64 cells (rest .axes) (a .followed) small) found) marked in
+        let b = goes-free f h line odds₀ stamps₀ rest odds stamps count (a .begun) at n odds′ stamps′ (omega arith)
+        (rw (followed-cells f cells (rest .axes) (a .followed) small) found) marked in
         record {
-          begun = subst (λ (l : Line). Begun h line odds₀ stamps₀ l odds′ stamps′ (count + n)) (sym moved) b;
+          begun = subst (λ (l : Line). Begun f h line odds₀ stamps₀ l odds′ stamps′ (count + n)) (sym moved) b;
           left = refl;
-          followed = subst (λ (l : Line). AllFollowed binary64 cells′ (l .axes)) (sym moved) f;
+          followed = subst (λ (l : Line). AllFollowed f cells′ (l .axes)) (sym moved) on;
         }

@@ -1,6 +1,7 @@
 // The first part of a walk, cell by whole number: as long as each axis is followed and its cell on the grid, the cells before the last are
 // marked free with nothing truncated. Where that ends, `walk` goes on step by step, which is what this part is proved to do faster.
 ghost use Prim.Native.Nat.{_≤_};
+ghost use lib.Ieee.{binary64};
 ghost use lib.ListN.{length};
 ghost use Rattle.laws.specs.Checks.{Ready};
 ghost use Rattle.laws.specs.Following.{Drawn};
@@ -27,7 +28,7 @@ pub struct Part2 {
 // On a head that has passed its checks and a line that the plotter drew, as `integrate2` has them.
 pub fn follow2(map: GridMap2, odds: &mut [f64], stamps: &mut [u32], line: BresenhamLine2) -> Part2
     requires { ⌜ Ready (head2 map) (length (now odds)) (length (now stamps)) ⌝ ∗ ⌜ Drawn (line2 line) ⌝ }
-    ensures { λ r. ⌜ Begun (head2 map) (line2 line) (now (odds .entry)) (now (stamps .entry))
+    ensures { λ r. ⌜ Begun binary64 (head2 map) (line2 line) (now (odds .entry)) (now (stamps .entry))
         (line2 (r .rest)) (now (odds .exit)) (now (stamps .exit)) (r .count) ⌝ }
 {
     let extents = map.extents;
@@ -63,7 +64,7 @@ pub struct Part3 {
 // As for two axes.
 pub fn follow3(map: GridMap3, odds: &mut [f64], stamps: &mut [u32], line: BresenhamLine3) -> Part3
     requires { ⌜ Ready (head3 map) (length (now odds)) (length (now stamps)) ⌝ ∗ ⌜ Drawn (line3 line) ⌝ }
-    ensures { λ r. ⌜ Begun (head3 map) (line3 line) (now (odds .entry)) (now (stamps .entry))
+    ensures { λ r. ⌜ Begun binary64 (head3 map) (line3 line) (now (odds .entry)) (now (stamps .entry))
         (line3 (r .rest)) (now (odds .exit)) (now (stamps .exit)) (r .count) ⌝ }
 {
     let extents = map.extents;

@@ -1,5 +1,6 @@
 // One mark: by place, and whether it changed the cell; by cell, where one off the grid is skipped, and how many marks changed a cell.
 ghost use Prim.Native.Nat.{_<_, _≤_};
+ghost use lib.Ieee.{binary64};
 ghost use lib.ListN.{length};
 ghost use Rattle.laws.specs.Checks.{Ready};
 ghost use Rattle.rules.specs.Coordinates.{flatIndex};
@@ -34,7 +35,7 @@ pub fn mark_place(
     occupied: bool,
 ) -> bool
     requires { ⌜ at < length (now odds) ⌝ ∗ ⌜ at < length (now stamps) ⌝ ∗ ⌜ frame .0 ≤ highestFrame ⌝ }
-    ensures { λ r. ⌜ MarkedAt occupied (stepsAt (modelOf model) at) (frame .0) at
+    ensures { λ r. ⌜ MarkedAt binary64 occupied (stepsAt (modelOf model) at) (frame .0) at
         (now (odds .entry)) (now (stamps .entry)) r (now (odds .exit)) (now (stamps .exit)) ⌝ }
 {
     let s = steps_at(model, at);
@@ -53,7 +54,7 @@ pub fn mark_place3(
     occupied: bool,
 ) -> bool
     requires { ⌜ Ready (head3 map) (length (now odds)) (length (now stamps)) ⌝ ∗ ⌜ at < length (now odds) ⌝ }
-    ensures { λ r. ⌜ MarkedAt occupied (stepsAt (bandsOf (map .extents) (map .bands)) at) (map .frame .0) at
+    ensures { λ r. ⌜ MarkedAt binary64 occupied (stepsAt (bandsOf (map .extents) (map .bands)) at) (map .frame .0) at
         (now (odds .entry)) (now (stamps .entry)) r (now (odds .exit)) (now (stamps .exit)) ⌝ }
 {
     let model = model_at(map.extents, map.bands, at);
@@ -69,7 +70,7 @@ pub fn mark_cell2(
     occupied: bool,
 ) -> u64
     requires { ⌜ Ready (head2 map) (length (now odds)) (length (now stamps)) ⌝ }
-    ensures { λ r. ⌜ Applied (markOf occupied (flatIndex (extents2 (map .extents)) (cell2 cell))) (modelOf (map .model)) (map .frame .0)
+    ensures { λ r. ⌜ Applied binary64 (markOf occupied (flatIndex (extents2 (map .extents)) (cell2 cell))) (modelOf (map .model)) (map .frame .0)
         (now (odds .entry)) (now (stamps .entry)) r (now (odds .exit)) (now (stamps .exit)) ⌝ }
 {
     match translate_to_index2(map.extents, cell) {
@@ -87,7 +88,7 @@ pub fn mark_cell3(
     occupied: bool,
 ) -> u64
     requires { ⌜ Ready (head3 map) (length (now odds)) (length (now stamps)) ⌝ }
-    ensures { λ r. ⌜ Applied (markOf occupied (flatIndex (extents3 (map .extents)) (cell3 cell))) (bandsOf (map .extents) (map .bands)) (map .frame .0)
+    ensures { λ r. ⌜ Applied binary64 (markOf occupied (flatIndex (extents3 (map .extents)) (cell3 cell))) (bandsOf (map .extents) (map .bands)) (map .frame .0)
         (now (odds .entry)) (now (stamps .entry)) r (now (odds .exit)) (now (stamps .exit)) ⌝ }
 {
     match translate_to_index3(map.extents, cell) {

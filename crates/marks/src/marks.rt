@@ -76,7 +76,7 @@ fn occupy(s: Steps, odds: f64, step: f64) -> f64
 // the entries refuse others with 5 and 9.
 pub fn mark_free_at(odds: &mut [f64], stamps: &mut [u32], at: usize, s: Steps, frame: Frame) -> bool
     requires { ⌜ at < length (now odds) ⌝ ∗ ⌜ at < length (now stamps) ⌝ ∗ ⌜ frame .0 ≤ Marks.highestFrame ⌝ }
-    ensures { λ r. ⌜ MarkedAt false (stepsOf s) (frame .0) at
+    ensures { λ r. ⌜ MarkedAt binary64 false (stepsOf s) (frame .0) at
         (now (odds .entry)) (now (stamps .entry)) r (now (odds .exit)) (now (stamps .exit)) ⌝ }
 {
     let stamp = stamps[at];
@@ -98,7 +98,7 @@ pub fn mark_occupied_at(
     frame: Frame,
 ) -> bool
     requires { ⌜ at < length (now odds) ⌝ ∗ ⌜ at < length (now stamps) ⌝ ∗ ⌜ frame .0 ≤ Marks.highestFrame ⌝ }
-    ensures { λ r. ⌜ MarkedAt true (stepsOf s) (frame .0) at
+    ensures { λ r. ⌜ MarkedAt binary64 true (stepsOf s) (frame .0) at
         (now (odds .entry)) (now (stamps .entry)) r (now (odds .exit)) (now (stamps .exit)) ⌝ }
 {
     let stamp = stamps[at];

@@ -1,4 +1,4 @@
--- A list of points, point by point: what holds between two of them, over any number of axes. Assumes nothing.
+-- A list of points, point by point: what holds between two of them, over any number of axes, in every format. Assumes nothing.
 use Prim.Native.Nat.{ℕ, suc, _+_, _-_, _*_, _≤_, _<_}
 use mathlib.Core.List.{List, [], _∷_, _++_, append-assoc, append-nil}
 use mathlib.Core.Option.{Option, some, none}
@@ -6,7 +6,7 @@ use mathlib.Core.Path.{_≡_, refl, sym, ap, _∙_}
 use native.Mathlib.Nat.{sub-zero, mul-zero, mul-suc, mul-le-mul-left}
 use native.Mathlib.Numerals.{add-one}
 use native.Mathlib.Omega.{arith}
-use lib.Ieee.{Float, binary64}
+use lib.Ieee.{Float, Format}
 use lib.ListN.{length, take, drop, set, length-drop, length-append, length-set, take-append-drop}
 use lib.Seq.{take-add, drop-drop, take-all, take-at, drop-at, take-suc-set, sets-eq, length-sets, length-take-le}
 use Rattle.rules.specs.Coordinates.{Sample, sample}
@@ -38,23 +38,23 @@ stored-length at (some s) l = length-sets l at (s .value ∷ s .gradient)
 stored-length at none l = refl
 
 -- ---- the points in order
-module _ (es : List ℕ) (odds points samples₀ : List Float) (found₀ : List ℕ) where
+module _ (f : Format) (es : List ℕ) (odds points samples₀ : List Float) (found₀ : List ℕ) where
   abbrev n : ℕ
   n = length es
 
   -- what the points from a place on leave in these slots, and their marks
   abbrev slotsFrom : ℕ → List Float → List Float
-  slotsFrom place samples = slotsAll binary64 es odds (length found₀ - place) (drop (n * place) points) (drop (suc n * place) samples)
+  slotsFrom place samples = slotsAll f es odds (length found₀ - place) (drop (n * place) points) (drop (suc n * place) samples)
 
   abbrev marksFrom : ℕ → List ℕ
-  marksFrom place = foundAll binary64 es odds (length found₀ - place) (drop (n * place) points)
+  marksFrom place = foundAll f es odds (length found₀ - place) (drop (n * place) points)
 
   -- the points before a place are done: the rest leaves of these lists what the whole leaves of the first ones
   pub record Underway (place : ℕ) (samples : List Float) (found : List ℕ) : Type 0 where
     pub numbers-kept : length samples ≡ length samples₀
     pub marks-kept : length found ≡ length found₀
-    pub slots : slotsAll binary64 es odds (length found₀) points samples₀ ≡ take (suc n * place) samples ++ slotsFrom place samples
-    pub marks : foundAll binary64 es odds (length found₀) points ≡ take place found ++ marksFrom place
+    pub slots : slotsAll f es odds (length found₀) points samples₀ ≡ take (suc n * place) samples ++ slotsFrom place samples
+    pub marks : foundAll f es odds (length found₀) points ≡ take place found ++ marksFrom place
 
   pub none-yet : Underway 0 samples₀ found₀
   none-yet = record { numbers-kept = refl; marks-kept = refl; slots = rw (mul-zero, mul-zero, sub-zero) refl; marks = rw (mul-zero, sub-zero) refl }
@@ -65,7 +65,7 @@ module _ (es : List ℕ) (odds points samples₀ : List Float) (found₀ : List 
       at = suc n * place
 
       abbrev answer : Option Sample
-      answer = sample binary64 es odds (take n (drop (n * place) points))
+      answer = sample f es odds (take n (drop (n * place) points))
 
       next : at + suc n ≡ suc n * (place + 1)
       next = rw add-one (sym (mul-suc (suc n) place))
@@ -81,7 +81,7 @@ module _ (es : List ℕ) (odds points samples₀ : List Float) (found₀ : List 
 
       size : length (slotOf answer (take (suc n) (drop at samples))) ≡ suc n
       size =
-          slot-size binary64 es odds (take n (drop (n * place) points)) (take (suc n) (drop at samples))
+          slot-size f es odds (take n (drop (n * place) points)) (take (suc n) (drop at samples))
           (length-take-le n (drop (n * place) points) (simp length-drop (omega (arith, point-fits))))
           (length-take-le (suc n) (drop at samples) (simp length-drop (omega (arith, fits))))
 
@@ -94,17 +94,17 @@ module _ (es : List ℕ) (odds points samples₀ : List Float) (found₀ : List 
       slots-next : slotsFrom place samples ≡ slotOf answer (take (suc n) (drop at samples)) ++ slotsFrom (place + 1) samples′
       unfolding slotsAll
       slots-next =
-          ap (λ (k : ℕ). slotsAll binary64 es odds k (drop (n * place) points) (drop at samples)) left
-          ∙ ap (λ (p : List Float). slotOf answer (take (suc n) (drop at samples)) ++ slotsAll binary64 es odds (length found₀ - (place + 1)) p (drop (suc n) (drop at samples)))
+          ap (λ (k : ℕ). slotsAll f es odds k (drop (n * place) points) (drop at samples)) left
+          ∙ ap (λ (p : List Float). slotOf answer (take (suc n) (drop at samples)) ++ slotsAll f es odds (length found₀ - (place + 1)) p (drop (suc n) (drop at samples)))
           (drop-drop n (n * place) points ∙ ap (λ (k : ℕ). drop k points) next-point)
-          ∙ ap (λ (s : List Float). slotOf answer (take (suc n) (drop at samples)) ++ slotsAll binary64 es odds (length found₀ - (place + 1)) (drop (n * (place + 1)) points) s)
+          ∙ ap (λ (s : List Float). slotOf answer (take (suc n) (drop at samples)) ++ slotsAll f es odds (length found₀ - (place + 1)) (drop (n * (place + 1)) points) s)
           (drop-drop (suc n) at samples ∙ sym (from-next at (suc n) samples fits answer size) ∙ ap (λ (k : ℕ). drop k samples′) next)
 
       marks-next : marksFrom place ≡ foundOf answer ∷ marksFrom (place + 1)
       unfolding foundAll
       marks-next =
-          ap (λ (k : ℕ). foundAll binary64 es odds k (drop (n * place) points)) left
-          ∙ ap (λ (p : List Float). foundOf answer ∷ foundAll binary64 es odds (length found₀ - (place + 1)) p)
+          ap (λ (k : ℕ). foundAll f es odds k (drop (n * place) points)) left
+          ∙ ap (λ (p : List Float). foundOf answer ∷ foundAll f es odds (length found₀ - (place + 1)) p)
           (drop-drop n (n * place) points ∙ ap (λ (k : ℕ). drop k points) next-point)
 
       pub one-more : Underway (place + 1) samples′ (set found place (foundOf answer))
@@ -125,14 +125,14 @@ module _ (es : List ℕ) (odds points samples₀ : List Float) (found₀ : List 
                 ∙ ap (λ (k : ℕ). take k (set found place (foundOf answer))) (sym (add-one place)));
           }
 
-    pub all-done : place ≡ length found₀ → slotsOf samples found ≡ sampledAll binary64 es odds points (slotsOf samples₀ found₀)
+    pub all-done : place ≡ length found₀ → slotsOf samples found ≡ sampledAll f es odds points (slotsOf samples₀ found₀)
     unfolding sampledAll slotsAll foundAll
     all-done e =
         let none-left : length found₀ - place ≡ 0 = omega arith in
-        let numbers : slotsAll binary64 es odds (length found₀) points samples₀ ≡ samples =
-        u .slots ∙ ap (λ (k : ℕ). take (suc n * place) samples ++ slotsAll binary64 es odds k (drop (n * place) points) (drop (suc n * place) samples)) none-left
+        let numbers : slotsAll f es odds (length found₀) points samples₀ ≡ samples =
+        u .slots ∙ ap (λ (k : ℕ). take (suc n * place) samples ++ slotsAll f es odds k (drop (n * place) points) (drop (suc n * place) samples)) none-left
         ∙ take-append-drop (suc n * place) samples in
-        let bytes : foundAll binary64 es odds (length found₀) points ≡ found =
-        u .marks ∙ ap (λ (k : ℕ). take place found ++ foundAll binary64 es odds k (drop (n * place) points)) none-left
+        let bytes : foundAll f es odds (length found₀) points ≡ found =
+        u .marks ∙ ap (λ (k : ℕ). take place found ++ foundAll f es odds k (drop (n * place) points)) none-left
         ∙ append-nil (take place found) ∙ take-all place found (omega (arith, u .marks-kept)) in
         rw (numbers, bytes) refl

@@ -1,4 +1,4 @@
--- Marks up a column: what holds between two of them. Whatever the cells that are left do to the lists as they stand, the whole column does to the lists as they
+-- Marks up a column, in every format: what holds between two of them. Whatever the cells that are left do to the lists as they stand, the whole column does to the lists as they
 -- were. Assumes nothing.
 use Prim.Native.Nat.{ℕ, zero, suc, _+_, _-_, _*_, _≤_, _<_}
 use mathlib.Core.Bool.{Bool, true, false}
@@ -7,7 +7,7 @@ use mathlib.Core.Path.{_≡_, refl, sym, ap, _∙_, subst}
 use native.Mathlib.Nat.{zero-add, add-assoc, add-zero, one-mul, mul-one, suc-mul}
 use native.Mathlib.Omega.{arith}
 use lib.IntN.{pos}
-use lib.Ieee.{Float}
+use lib.Ieee.{Float, Format}
 use lib.ListN.{length}
 use mir.Val.{boolByte}
 use Rattle.rules.specs.RefusalNumbers.{given}
@@ -53,7 +53,7 @@ place-is ex ey ez x y z at hx hy hz e =
     cc
 
 -- ---- the marks
-module _ (h : Head) (x y : ℕ) (last : Bool) (bottom above : ℕ) (odds₀ : List Float) (stamps₀ : List ℕ) where
+module _ (f : Format) (h : Head) (x y : ℕ) (last : Bool) (bottom above : ℕ) (odds₀ : List Float) (stamps₀ : List ℕ) where
   pub record Climbing (at left count : ℕ) (odds : List Float) (stamps : List ℕ) : Type 0 where
     pub height : ℕ
     pub level : height + left ≡ bottom + above
@@ -61,8 +61,8 @@ module _ (h : Head) (x y : ℕ) (last : Bool) (bottom above : ℕ) (odds₀ : Li
     pub ready : Ready h (length odds) (length stamps)
     pub used : count + room (h .frame) stamps ≤ room (h .frame) stamps₀
     pub whole : (n : ℕ) (odds′ : List Float) (stamps′ : List ℕ)
-        → Applied (columnMarks (h .extents) x y last height left) (h .model) (h .frame) odds stamps n odds′ stamps′
-        → Applied (columnMarks (h .extents) x y last bottom above) (h .model) (h .frame) odds₀ stamps₀ (count + n) odds′ stamps′
+        → Applied f (columnMarks (h .extents) x y last height left) (h .model) (h .frame) odds stamps n odds′ stamps′
+        → Applied f (columnMarks (h .extents) x y last bottom above) (h .model) (h .frame) odds₀ stamps₀ (count + n) odds′ stamps′
 
   pub starts : (at : ℕ) → Ready h (length odds₀) (length stamps₀) → at ≡ columnPlace (h .extents) x y bottom → Climbing at above 0 odds₀ stamps₀
   starts at r e = record { height = bottom; level = refl; place = e; ready = r; used = omega arith; whole = λ n o s a. rw zero-add a }
@@ -70,14 +70,14 @@ module _ (h : Head) (x y : ℕ) (last : Bool) (bottom above : ℕ) (odds₀ : Li
   module _ (at count : ℕ) (odds : List Float) (stamps : List ℕ) where
     -- a mark here, counted
     pub counts : (left : ℕ) (occupied changed : Bool) (odds′ : List Float) (stamps′ : List ℕ) → Climbing at left count odds stamps → at < cells (h .extents)
-        → MarkedAt occupied (stepsAt (h .model) at) (h .frame) at odds stamps changed odds′ stamps′
-        → Applied (one at occupied) (h .model) (h .frame) odds stamps (boolByte changed) odds′ stamps′
+        → MarkedAt f occupied (stepsAt (h .model) at) (h .frame) at odds stamps changed odds′ stamps′
+        → Applied f (one at occupied) (h .model) (h .frame) odds stamps (boolByte changed) odds′ stamps′
     counts left occupied changed odds′ stamps′ w lt marked =
-        one-applied (h .model) (h .frame) occupied at odds odds′ stamps stamps′ changed (rw (w .ready .stamps-count) lt) marked
+        one-applied f (h .model) (h .frame) occupied at odds odds′ stamps stamps′ changed (rw (w .ready .stamps-count) lt) marked
 
     -- a free mark, and the place above it
     one-up : (left next n : ℕ) (odds′ : List Float) (stamps′ : List ℕ) (w : Climbing at (suc left) count odds stamps)
-        → Applied (one at false) (h .model) (h .frame) odds stamps n odds′ stamps′ → next ≡ columnPlace (h .extents) x y (suc (w .height))
+        → Applied f (one at false) (h .model) (h .frame) odds stamps n odds′ stamps′ → next ≡ columnPlace (h .extents) x y (suc (w .height))
         → Climbing next left (count + n) odds′ stamps′
     unfolding columnMarks
     one-up left next n odds′ stamps′ w a e =
@@ -88,17 +88,17 @@ module _ (h : Head) (x y : ℕ) (last : Bool) (bottom above : ℕ) (odds₀ : Li
           height = suc (w .height);
           level = omega arith;
           place = e;
-          ready = still-ready h _ odds odds′ stamps stamps′ n (w .ready) a;
+          ready = still-ready f h _ odds odds′ stamps stamps′ n (w .ready) a;
           used = omega arith;
           whole = λ k odds″ stamps″ b.
               rw add-assoc
               (w .whole (n + k) odds″ stamps″
-              (both-applied (h .model) (h .frame) (one (columnPlace (h .extents) x y (w .height)) false) _ odds odds′ odds″ stamps stamps′ stamps″ n k
-              (subst (λ (i : ℕ). Applied (one i false) (h .model) (h .frame) odds stamps n odds′ stamps′) (w .place) a) b));
+              (both-applied f (h .model) (h .frame) (one (columnPlace (h .extents) x y (w .height)) false) _ odds odds′ odds″ stamps stamps′ stamps″ n k
+              (subst (λ (i : ℕ). Applied f (one i false) (h .model) (h .frame) odds stamps n odds′ stamps′) (w .place) a) b));
         }
 
     pub goes-up : (left next n : ℕ) (odds′ : List Float) (stamps′ : List ℕ) (w : Climbing at left count odds stamps) → 0 < left
-        → Applied (one at false) (h .model) (h .frame) odds stamps n odds′ stamps′ → next ≡ columnPlace (h .extents) x y (suc (w .height))
+        → Applied f (one at false) (h .model) (h .frame) odds stamps n odds′ stamps′ → next ≡ columnPlace (h .extents) x y (suc (w .height))
         → Climbing next (left - 1) (count + n) odds′ stamps′
     goes-up zero next n odds′ stamps′ w p a e = absurd (omega arith)
     goes-up (suc left) next n odds′ stamps′ w p a e =
@@ -106,9 +106,9 @@ module _ (h : Head) (x y : ℕ) (last : Bool) (bottom above : ℕ) (odds₀ : Li
 
     -- the last mark
     pub ends : (left n : ℕ) (odds′ : List Float) (stamps′ : List ℕ) → Climbing at left count odds stamps → left ≡ 0
-        → Applied (one at last) (h .model) (h .frame) odds stamps n odds′ stamps′
-        → Applied (columnMarks (h .extents) x y last bottom above) (h .model) (h .frame) odds₀ stamps₀ (count + n) odds′ stamps′
+        → Applied f (one at last) (h .model) (h .frame) odds stamps n odds′ stamps′
+        → Applied f (columnMarks (h .extents) x y last bottom above) (h .model) (h .frame) odds₀ stamps₀ (count + n) odds′ stamps′
     unfolding columnMarks
     ends zero n odds′ stamps′ w z a =
-        w .whole n odds′ stamps′ (subst (λ (i : ℕ). Applied (one i last) (h .model) (h .frame) odds stamps n odds′ stamps′) (w .place) a)
+        w .whole n odds′ stamps′ (subst (λ (i : ℕ). Applied f (one i last) (h .model) (h .frame) odds stamps n odds′ stamps′) (w .place) a)
     ends (suc left) n odds′ stamps′ w z a = absurd (omega arith)

@@ -1,5 +1,6 @@
 // Cells of one column, from the lowest up: each lies one layer of the map further on in the lists.
 ghost use Prim.Native.Nat.{_+_, _<_};
+ghost use lib.Ieee.{binary64};
 ghost use lib.ListN.{length};
 ghost use Rattle.laws.specs.Checks.{Ready};
 ghost use Rattle.rules.specs.VerticalBeam.{columnMarks};
@@ -25,7 +26,7 @@ pub fn mark_column(
 ) -> u64
     requires { ⌜ Ready (head3 map) (length (now odds)) (length (now stamps)) ⌝
         ∗ ⌜ x < map .extents .x ⌝ ∗ ⌜ y < map .extents .y ⌝ ∗ ⌜ bottom + above < map .extents .z ⌝ }
-    ensures { λ r. ⌜ Applied (columnMarks (extents3 (map .extents)) x y occupied bottom above) (bandsOf (map .extents) (map .bands)) (map .frame .0)
+    ensures { λ r. ⌜ Applied binary64 (columnMarks (extents3 (map .extents)) x y occupied bottom above) (bandsOf (map .extents) (map .bands)) (map .frame .0)
         (now (odds .entry)) (now (stamps .entry)) r (now (odds .exit)) (now (stamps .exit)) ⌝ }
 {
     let extents = map.extents;

@@ -34,7 +34,7 @@ returns c =
     let origin = point2 (a .beam .origin) in
     let endpoint = point2 (a .beam .endpoint) in
     rw (not-finite (allFinite origin && allFinite endpoint) (clip binary64 (extents2 (a .map .extents)) origin endpoint) tried)
-    (not-integrated (modelOf (a .map .model)) (a .map .frame .0) (now (a .odds)) (now (a .stamps)) Ray)
+    (not-integrated binary64 (modelOf (a .map .model)) (a .map .frame .0) (now (a .odds)) (now (a .stamps)) Ray)
 
 same-length : tie.Need-same-length
 same-length c = search needs

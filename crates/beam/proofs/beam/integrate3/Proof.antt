@@ -34,7 +34,7 @@ returns c =
     let origin = point3 (a .beam .origin) in
     let endpoint = point3 (a .beam .endpoint) in
     rw (not-finite (allFinite origin && allFinite endpoint) (clip binary64 (extents3 (a .map .extents)) origin endpoint) tried)
-    (not-integrated (bandsOf (a .map .extents) (a .map .bands)) (a .map .frame .0) (now (a .odds)) (now (a .stamps)) Ray)
+    (not-integrated binary64 (bandsOf (a .map .extents) (a .map .bands)) (a .map .frame .0) (now (a .odds)) (now (a .stamps)) Ray)
 
 same-length : tie.Need-same-length
 same-length c = search needs

@@ -1,6 +1,7 @@
 -- By what clipping left, and then by what the plotter answers.
 use mathlib.Core.Path.{sym, ap, _∙_}
 use denote.Ref.{now}
+use lib.Ieee.{binary64}
 use borrow.Author.Needs.{needs}
 use Rattle.types.specs.Models.{bandsOf}
 use Rattle.rules.specs.OneBeam.{marksBetween}
@@ -34,11 +35,11 @@ walk-drawn3-requires c κs = (c .before .before .before .before .before .before 
 
 returns : tie.Need-returns
 unfolding marksBetween
-returns c = rw (ap clip3 (c .enum-told .given .1)) (missed (bandsOf (c .before .before .before .before .args .map .extents) (c .before .before .before .before .args .map .bands)) (c .before .before .before .before .args .map .frame .0) (now (c .before .before .before .before .args .odds)) (now (c .before .before .before .before .args .stamps)))
+returns c = rw (ap clip3 (c .enum-told .given .1)) (missed binary64 (bandsOf (c .before .before .before .before .args .map .extents) (c .before .before .before .before .args .map .bands)) (c .before .before .before .before .args .map .frame .0) (now (c .before .before .before .before .args .odds)) (now (c .before .before .before .before .args .stamps)))
 
 returns-2 : tie.Need-returns-2
 unfolding marksBetween
-returns-2 c = rw (ap clip3 (c .before .before .before .before .before .clip .given .1), sym (c .before .before .before .plotter .ensures) ∙ ap plotted3 (c .before .r .given .1)) (not-integrated (bandsOf (c .before .before .before .before .before .before .before .before .before .args .map .extents) (c .before .before .before .before .before .before .before .before .before .args .map .bands)) (c .before .before .before .before .before .before .before .before .before .args .map .frame .0) (now (c .before .before .before .before .before .before .before .before .before .args .odds)) (now (c .before .before .before .before .before .before .before .before .before .args .stamps)) (c .before .r .given .0 .0))
+returns-2 c = rw (ap clip3 (c .before .before .before .before .before .clip .given .1), sym (c .before .before .before .plotter .ensures) ∙ ap plotted3 (c .before .r .given .1)) (not-integrated binary64 (bandsOf (c .before .before .before .before .before .before .before .before .before .args .map .extents) (c .before .before .before .before .before .before .before .before .before .args .map .bands)) (c .before .before .before .before .before .before .before .before .before .args .map .frame .0) (now (c .before .before .before .before .before .before .before .before .before .args .odds)) (now (c .before .before .before .before .before .before .before .before .before .args .stamps)) (c .before .r .given .0 .0))
 
 same-length : tie.Need-same-length
 same-length c = search needs
@@ -48,7 +49,7 @@ same-length-2 c = search needs
 
 returns-3 : tie.Need-returns-3
 unfolding marksBetween
-returns-3 c = rw (ap clip3 (c .before .before .before .before .before .before .before .before .before .before .before .before .before .clip .given .1), sym (c .before .before .before .before .before .before .before .before .before .before .before .plotter .ensures) ∙ ap plotted3 (c .before .before .before .before .before .before .before .before .before .line .given .1), ← c .before .before .before .before .before .both .ensures) (integrated-along (bandsOf (c .before .before .before .before .before .before .before .before .before .before .before .before .before .before .before .before .before .args .map .extents) (c .before .before .before .before .before .before .before .before .before .before .before .before .before .before .before .before .before .args .map .bands)) (c .before .before .before .before .before .before .before .before .before .before .before .before .before .before .before .before .before .args .map .frame .0) (now (c .before .before .before .before .before .before .before .before .before .before .before .before .before .before .before .before .before .args .odds)) (now (c .before .before .before .before .before .before .before .before .before .before .before .before .before .before .before .before .before .args .stamps)) _ _ _ _ (c .before .before .before .before .walk-drawn3 .ensures))
+returns-3 c = rw (ap clip3 (c .before .before .before .before .before .before .before .before .before .before .before .before .before .clip .given .1), sym (c .before .before .before .before .before .before .before .before .before .before .before .plotter .ensures) ∙ ap plotted3 (c .before .before .before .before .before .before .before .before .before .line .given .1), ← c .before .before .before .before .before .both .ensures) (integrated-along binary64 (bandsOf (c .before .before .before .before .before .before .before .before .before .before .before .before .before .before .before .before .before .args .map .extents) (c .before .before .before .before .before .before .before .before .before .before .before .before .before .before .before .before .before .args .map .bands)) (c .before .before .before .before .before .before .before .before .before .before .before .before .before .before .before .before .before .args .map .frame .0) (now (c .before .before .before .before .before .before .before .before .before .before .before .before .before .before .before .before .before .args .odds)) (now (c .before .before .before .before .before .before .before .before .before .before .before .before .before .before .before .before .before .args .stamps)) _ _ _ _ (c .before .before .before .before .walk-drawn3 .ensures))
 
 pub integrate-clipped3-spec : {M : Type 1} → statement M
 integrate-clipped3-spec =

@@ -6,6 +6,7 @@ use native.Mathlib.Omega.{arith}
 use borrow.Author.Needs.{needs}
 use denote.Ref.{now}
 use mir.Val.{boolByte}
+use lib.Ieee.{binary64}
 use Rattle.rules.specs.TheLine.{Line, axesAfter}
 use Rattle.laws.specs.Places.{place-lt}
 use Rattle.laws.specs.Room.{room-most}
@@ -17,7 +18,7 @@ use Rattle.beam.proofs.follow.follow2.Tie as tie
 
 abbrev Inv-loop : tie.InvT-loop
 Inv-loop map odds₀ stamps₀ extents rest₀ count₀ x₀ y₀ remaining₀ odds stamps rest count x y remaining =
-    Along (head2 map) (line2 rest₀) odds₀ stamps₀ (x ∷ y ∷ []) (line2 rest) odds stamps count remaining
+    Along binary64 (head2 map) (line2 rest₀) odds₀ stamps₀ (x ∷ y ∷ []) (line2 rest) odds stamps count remaining
 
 abbrev μ-loop : tie.MeasureT-loop
 μ-loop map odds₀ stamps₀ extents rest₀ count₀ x₀ y₀ remaining₀ odds stamps rest count x y remaining = remaining
@@ -29,7 +30,7 @@ followed-cell-requires-2 : tie.Need-followed-cell-requires-2 Inv-loop μ-loop
 followed-cell-requires-2 c κs = search needs
 
 loop-holds : tie.Need-loop-holds Inv-loop μ-loop
-loop-holds c = starts _ _ _ _ _ (c .before .before .before .before .before .before .before .pre .0) (c .before .before .before .before .before .before .before .pre .1) (c .before .followed-cell .ensures, (c .followed-cell2 .ensures, tt))
+loop-holds c = starts _ _ _ _ _ _ (c .before .before .before .before .before .before .before .pre .0) (c .before .before .before .before .before .before .before .pre .1) (c .before .followed-cell .ensures, (c .followed-cell2 .ensures, tt))
 
 same-length : tie.Need-same-length Inv-loop μ-loop
 same-length c = c .before .before .before .loop .inv .begun .walked false .ready .odds-count ∙ sym (c .before .before .before .before .before .before .before .before .before .before .before .pre .0 .odds-count)
@@ -64,7 +65,7 @@ cast-count c = search needs
 add-count : tie.Need-add-count Inv-loop μ-loop
 add-count c =
     let before = c .before .before .before .before .before .before .before .before .before .before .before .before .before .loop .inv .begun .walked false .used in
-    let step = counts _ _ _ _ _ _ _ _ _ _ (c .before .before .before .before .before .before .before .before .before .before .before .before .before .loop .inv) _ _ _ _ (place-lt _ _ _ refl (c .before .before .before .before .before .before .before .place-within2 .ensures)) (c .before .before .before .before .mark-place .ensures) .used in
+    let step = counts _ _ _ _ _ _ _ _ _ _ _ (c .before .before .before .before .before .before .before .before .before .before .before .before .before .loop .inv) _ _ _ _ (place-lt _ _ _ refl (c .before .before .before .before .before .before .before .place-within2 .ensures)) (c .before .before .before .before .mark-place .ensures) .used in
     let most = room-most (c .before .before .before .before .before .before .before .before .before .before .before .before .before .before .before .before .before .before .before .before .before .args .map .frame .0) (now (c .before .before .before .before .before .before .before .before .before .before .before .before .before .before .before .before .before .before .before .before .before .args .stamps)) in
     let counted = c .before .before .before .before .before .before .before .before .before .before .before .before .before .before .before .before .before .before .before .before .before .pre .0 .stamps-count in
     let few = c .before .before .before .before .before .before .before .before .before .before .before .before .before .before .before .before .before .before .before .before .before .pre .0 .extents .1 in
@@ -96,7 +97,7 @@ loop-less c =
 loop-again : tie.Need-loop-again Inv-loop μ-loop
 unfolding axesAfter
 loop-again c =
-    follows _ _ _ _ _ (line2 (c .before .before .before .before .before .before .before .before .before .before .before .before .before .before .before .before .loop .rest)) _ _ _ _ (c .before .before .before .before .before .before .before .before .before .before .before .before .before .before .before .before .loop .inv) _ _ _ (boolByte (c .before .before .before .before .before .before .before .mark-place .result)) _ _
+    follows _ _ _ _ _ _ (line2 (c .before .before .before .before .before .before .before .before .before .before .before .before .before .before .before .before .loop .rest)) _ _ _ _ (c .before .before .before .before .before .before .before .before .before .before .before .before .before .before .before .before .loop .inv) _ _ _ (boolByte (c .before .before .before .before .before .before .before .mark-place .result)) _ _
     (c .before .before .before .before .before .before .before .before .before .before .before .before .before .before .before .loop-test .taken) (
       on-a-map _ _ (c .before .before .before .before .before .before .before .before .before .before .before .before .before .if1 .left) (c .before .before .before .before .before .before .before .before .before .before .before .before .before .before .before .before .before .before .before .before .before .before .before .before .pre .0 .extents .0 .1),
       (
@@ -104,7 +105,7 @@ loop-again c =
         tt,
       ),
     )
-    (c .before .before .before .before .before .before .before .before .before .before .place-within2 .ensures) (counts _ _ _ _ _ _ _ _ _ _ (c .before .before .before .before .before .before .before .before .before .before .before .before .before .before .before .before .loop .inv) _ _ _ _ (place-lt _ _ _ refl (c .before .before .before .before .before .before .before .before .before .before .place-within2 .ensures)) (c .before .before .before .before .before .before .before .mark-place .ensures)) (c .moved .ensures)
+    (c .before .before .before .before .before .before .before .before .before .before .place-within2 .ensures) (counts _ _ _ _ _ _ _ _ _ _ _ (c .before .before .before .before .before .before .before .before .before .before .before .before .before .before .before .before .loop .inv) _ _ _ _ (place-lt _ _ _ refl (c .before .before .before .before .before .before .before .before .before .before .place-within2 .ensures)) (c .before .before .before .before .before .before .before .mark-place .ensures)) (c .moved .ensures)
     (c .before .before .cell-after .ensures, (c .before .cell-after2 .ensures, tt))
 
 same-length-5 : tie.Need-same-length-5 Inv-loop μ-loop

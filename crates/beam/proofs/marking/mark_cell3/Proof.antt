@@ -27,7 +27,7 @@ cast-result : tie.Need-cast-result
 cast-result c = search needs
 
 returns : tie.Need-returns
-returns c = rw (sym (c .before .before .translate-to-index3 .ensures) ∙ ap placeOf (c .enum-told .given .1)) (none-applied _ _ _ _)
+returns c = rw (sym (c .before .before .translate-to-index3 .ensures) ∙ ap placeOf (c .enum-told .given .1)) (none-applied _ _ _ _ _)
 
 same-length : tie.Need-same-length
 same-length c = search needs
@@ -39,7 +39,7 @@ returns-2 : tie.Need-returns-2
 returns-2 c =
     let found = sym (c .before .before .before .before .before .before .before .before .before .before .translate-to-index3 .ensures) ∙ ap placeOf (c .before .before .before .before .before .before .before .before .i .given .1) in
     let p = c .before .before .before .before .before .before .before .before .before .before .before .before .before .pre in
-    rw found (one-applied _ _ _ _ _ _ _ _ _ (rw (p .stamps-count) (place-lt _ _ _ refl found)) (c .before .before .before .before .mark-place3 .ensures))
+    rw found (one-applied _ _ _ _ _ _ _ _ _ _ (rw (p .stamps-count) (place-lt _ _ _ refl found)) (c .before .before .before .before .mark-place3 .ensures))
 
 pub mark-cell3-spec : {M : Type 1} → statement M
 mark-cell3-spec =

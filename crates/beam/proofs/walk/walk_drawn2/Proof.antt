@@ -35,7 +35,7 @@ same-length-2 c = search needs
 
 returns : tie.Need-returns
 returns c =
-    goes-last _ _ _ _ _ _ _ _ (c .before .before .before .before .before .before .before .before .before .before .before .before .before .before .before .before .follow2 .ensures) (c .before .before .before .before .before .before .before .before .before .before .before .before .before .before .before .before .before .before .before .before .before .args .occupied) (c .before .before .before .before .before .mark-cell2 .result) _ _ (c .before .before .before .before .before .before .before .before .before .if1 .taken)
+    goes-last _ _ _ _ _ _ _ _ _ (c .before .before .before .before .before .before .before .before .before .before .before .before .before .before .before .before .follow2 .ensures) (c .before .before .before .before .before .before .before .before .before .before .before .before .before .before .before .before .before .before .before .before .before .args .occupied) (c .before .before .before .before .before .mark-cell2 .result) _ _ (c .before .before .before .before .before .before .before .before .before .if1 .taken)
     (rw (c .before .before .before .before .before .before .last-cell .ensures) at (c .before .before .before .before .before .mark-cell2 .ensures))
 
 walk2-requires : tie.Need-walk2-requires

@@ -35,7 +35,7 @@ same-length-2 c = search needs
 
 returns : tie.Need-returns
 returns c =
-    goes-last _ _ _ _ _ _ _ _ (c .before .before .before .before .before .before .before .before .before .before .before .before .before .before .before .before .follow3 .ensures) (c .before .before .before .before .before .before .before .before .before .before .before .before .before .before .before .before .before .before .before .before .before .args .occupied) (c .before .before .before .before .before .mark-cell3 .result) _ _ (c .before .before .before .before .before .before .before .before .before .if1 .taken)
+    goes-last _ _ _ _ _ _ _ _ _ (c .before .before .before .before .before .before .before .before .before .before .before .before .before .before .before .before .follow3 .ensures) (c .before .before .before .before .before .before .before .before .before .before .before .before .before .before .before .before .before .before .before .before .before .args .occupied) (c .before .before .before .before .before .mark-cell3 .result) _ _ (c .before .before .before .before .before .before .before .before .before .if1 .taken)
     (rw (c .before .before .before .before .before .before .last-cell .ensures) at (c .before .before .before .before .before .mark-cell3 .ensures))
 
 walk3-requires : tie.Need-walk3-requires

@@ -1,12 +1,10 @@
 -- A stamp of this frame leaves the cell; any other is replaced and the free step taken.
 use mathlib.Core.Path.{_∙_}
-use mathlib.Core.Bool.{false}
-use borrow.Author.Tests.{eq-eqb, ne-eqb}
 use denote.Ref.{now}
 use borrow.Author.Needs.{needs}
-use Rattle.rules.specs.MarksAndFrames.{markCell, markFree}
+use lib.Ieee.{binary64}
 use Rattle.marks.specs.Marking.{stepsOf}
-use Rattle.marks.proofs.Marking.{left, moved}
+use Rattle.marks.proofs.Marking.{free-left, free-moved}
 use Rattle.marks.proofs.marks.mark_free_at.Statement.{statement}
 use Rattle.marks.proofs.marks.mark_free_at.Tie as tie
 
@@ -17,10 +15,9 @@ slice-read-stamp : tie.Need-slice-read-stamp
 slice-read-stamp c = search needs
 
 returns : tie.Need-returns
-unfolding markCell markFree
 returns c =
     let a = c .before .before .before .before .before .args in
-    left false (stepsOf (a .s)) (a .frame .0) (a .at) (now (a .odds)) (now (a .stamps)) (simp (eq-eqb _ _ (c .if1 .taken)))
+    free-left binary64 (stepsOf (a .s)) (a .frame .0) (a .at) (now (a .odds)) (now (a .stamps)) (c .if1 .taken)
 
 mul-o : tie.Need-mul-o
 mul-o c = search needs
@@ -56,11 +53,10 @@ same-length-2 : tie.Need-same-length-2
 same-length-2 c = search needs
 
 returns-2 : tie.Need-returns-2
-unfolding markCell markFree
 returns-2 c =
     let a = c .before .before .before .before .before .before .before .before .before .args in
-    moved false (stepsOf (a .s)) (a .frame .0) (a .at) (now (a .odds)) (now (a .stamps)) (c .freed .result) (c .before .number .result)
-    (simp (ne-eqb _ _ (c .before .before .before .before .if1 .left), c .freed .ensures, c .before .number .ensures ∙ c .before .before .of .ensures))
+    free-moved binary64 (stepsOf (a .s)) (a .frame .0) (a .at) (now (a .odds)) (now (a .stamps))
+    (c .before .before .before .before .if1 .left) (c .freed .ensures) (c .before .number .ensures ∙ c .before .before .of .ensures)
 
 pub mark-free-at-spec : {M : Type 1} → statement M
 mark-free-at-spec =

@@ -1,12 +1,10 @@
 -- An occupied stamp of this frame leaves the cell; any other is replaced and the occupied step taken.
 use mathlib.Core.Path.{_∙_}
-use mathlib.Core.Bool.{true}
-use borrow.Author.Tests.{eq-eqb, ne-eqb}
 use denote.Ref.{now}
 use borrow.Author.Needs.{needs}
-use Rattle.rules.specs.MarksAndFrames.{markCell, markOccupied}
+use lib.Ieee.{binary64}
 use Rattle.marks.specs.Marking.{stepsOf}
-use Rattle.marks.proofs.Marking.{left, moved}
+use Rattle.marks.proofs.Marking.{occupied-left, occupied-moved}
 use Rattle.marks.proofs.marks.mark_occupied_at.Statement.{statement}
 use Rattle.marks.proofs.marks.mark_occupied_at.Tie as tie
 
@@ -23,10 +21,9 @@ number-requires : tie.Need-number-requires
 number-requires c κs = search needs
 
 returns : tie.Need-returns
-unfolding markCell markOccupied
 returns c =
     let a = c .before .before .before .before .before .before .args in
-    left true (stepsOf (a .s)) (a .frame .0) (a .at) (now (a .odds)) (now (a .stamps)) (simp (eq-eqb _ _ (c .if1 .taken ∙ c .before .number .ensures ∙ c .before .before .of .ensures)))
+    occupied-left binary64 (stepsOf (a .s)) (a .frame .0) (a .at) (now (a .odds)) (now (a .stamps)) (c .if1 .taken) (c .before .number .ensures ∙ c .before .before .of .ensures)
 
 mul-o : tie.Need-mul-o
 mul-o c = search needs
@@ -59,16 +56,11 @@ same-length-2 : tie.Need-same-length-2
 same-length-2 c = search needs
 
 returns-2 : tie.Need-returns-2
-unfolding markCell markOccupied
 returns-2 c =
     let a = c .before .before .before .before .before .before .before .before .before .args in
-    moved true (stepsOf (a .s)) (a .frame .0) (a .at) (now (a .odds)) (now (a .stamps)) (c .occupy .result) (c .before .before .before .before .number .result)
-    (simp (
-      ne-eqb _ _ (rw (c .before .before .before .before .number .ensures ∙ c .before .before .before .before .before .of .ensures) at (c .before .before .before .if1 .left)),
-      c .occupy .ensures,
-      c .before .occupied-step .ensures,
-      c .before .before .before .before .number .ensures ∙ c .before .before .before .before .before .of .ensures,
-    ))
+    let d = c .before .before .before .before in
+    occupied-moved binary64 (stepsOf (a .s)) (a .frame .0) (a .at) (now (a .odds)) (now (a .stamps))
+    (c .before .before .before .if1 .left) (c .before .occupied-step .ensures) (c .occupy .ensures) (d .number .ensures ∙ d .before .of .ensures)
 
 pub mark-occupied-at-spec : {M : Type 1} → statement M
 mark-occupied-at-spec =

@@ -7,6 +7,7 @@ use borrow.Author.Needs.{needs}
 use denote.Ref.{now}
 use mir.Facts.{fits-le, fits-lit}
 use mir.Val.{boolByte}
+use lib.Ieee.{binary64}
 use Rattle.laws.specs.Room.{room-most}
 use Rattle.grid_map.specs.Heads.{head3}
 use Rattle.vertical.proofs.Climbing.{next-place, place-below, place-is, Climbing, starts, counts, goes-up, ends}
@@ -15,7 +16,7 @@ use Rattle.vertical.proofs.column.mark_column.Tie as tie
 
 abbrev Inv-loop : tie.InvT-loop
 Inv-loop map odds₀ stamps₀ x y bottom above occupied layer at₀ left₀ count₀ odds stamps at left count =
-    Climbing (head3 map) x y occupied bottom above odds₀ stamps₀ at left count odds stamps
+    Climbing binary64 (head3 map) x y occupied bottom above odds₀ stamps₀ at left count odds stamps
 
 abbrev μ-loop : tie.MeasureT-loop
 μ-loop map odds₀ stamps₀ x y bottom above occupied layer at₀ left₀ count₀ odds stamps at left count = left
@@ -35,7 +36,7 @@ loop-holds : tie.Need-loop-holds Inv-loop μ-loop
 loop-holds c =
     let s = c .before .before .before .before .before in
     let h = s .pre .1 .1 .1 in
-    starts _ _ _ _ _ _ _ _ _ (s .pre .0) (place-is _ _ _ _ _ _ _ (s .pre .1 .0) (s .pre .1 .1 .0) (omega arith) (c .place-within3 .ensures))
+    starts _ _ _ _ _ _ _ _ _ _ (s .pre .0) (place-is _ _ _ _ _ _ _ (s .pre .1 .0) (s .pre .1 .1 .0) (omega arith) (c .place-within3 .ensures))
 
 mark-place3-requires : tie.Need-mark-place3-requires Inv-loop μ-loop
 mark-place3-requires c κs =
@@ -90,8 +91,8 @@ loop-again c =
     let h = s .pre .1 .1 .1 in
     let l = w .level in
     let lt = place-below _ _ _ _ _ _ _ (w .place) (s .pre .1 .0) (s .pre .1 .1 .0) (omega arith) in
-    goes-up _ _ _ _ _ _ _ _ _ _ _ _ _ _ (boolByte (c .before .before .before .before .mark-place3 .result)) _ _ w (omega arith)
-    (counts _ _ _ _ _ _ _ _ _ _ _ _ _ _ _ _ _ w lt (c .before .before .before .before .mark-place3 .ensures))
+    goes-up _ _ _ _ _ _ _ _ _ _ _ _ _ _ _ (boolByte (c .before .before .before .before .mark-place3 .result)) _ _ w (omega arith)
+    (counts _ _ _ _ _ _ _ _ _ _ _ _ _ _ _ _ _ _ w lt (c .before .before .before .before .mark-place3 .ensures))
     (next-place _ _ _ _ _ _ _ (w .place))
 
 mark-place3-requires-2 : tie.Need-mark-place3-requires-2 Inv-loop μ-loop
@@ -134,8 +135,8 @@ returns c =
     let h = s .pre .1 .1 .1 in
     let l = w .level in
     let lt = place-below _ _ _ _ _ _ _ (w .place) (s .pre .1 .0) (s .pre .1 .1 .0) (omega arith) in
-    ends _ _ _ _ _ _ _ _ _ _ _ _ _ (boolByte (c .before .before .before .before .mark-place32 .result)) _ _ w (omega arith)
-    (counts _ _ _ _ _ _ _ _ _ _ _ _ _ _ _ _ _ w lt (c .before .before .before .before .mark-place32 .ensures))
+    ends _ _ _ _ _ _ _ _ _ _ _ _ _ _ (boolByte (c .before .before .before .before .mark-place32 .result)) _ _ w (omega arith)
+    (counts _ _ _ _ _ _ _ _ _ _ _ _ _ _ _ _ _ _ w lt (c .before .before .before .before .mark-place32 .ensures))
 
 pub mark-column-spec : {M : Type 1} → statement M
 mark-column-spec =

@@ -39,7 +39,7 @@ returns c =
     let told = c .before .before .before .before .before .before .before in
     let fine = sym (told .before .before .before .before .check .ensures) ∙ ap checkOf (told .before .before .enum-told .given .1) in
     rw (fine, sym (told .before .in-profile .ensures) ∙ told .if1 .taken)
-    (ap ofIntegrated (integrated-along _ _ _ _ _ _ _ _ (c .before .before .before .before .mark-vertical .ensures) .is))
+    (ap ofIntegrated (integrated-along _ _ _ _ _ _ _ _ _ (c .before .before .before .before .mark-vertical .ensures) .is))
 
 returns-2 : tie.Need-returns-2
 unfolding updateVerticalEntry
