@@ -10,45 +10,43 @@ use Rattle.marks.proofs.bands.model_at.Statement.{statement}
 use Rattle.marks.proofs.bands.model_at.Tie as tie
 
 mul-layer : tie.Need-mul-layer
-mul-layer c = let a = c .before .before .before .before .before .args in fits-le (layer-most (a .extents) (a .bands) (c .before .before .before .before .before .pre .0)) (fits-lit {n = 4096 * 4096} tt)
+mul-layer c = fits-le (layer-most _ _ _ (c .before .before .before .before .before .pre .0)) (fits-lit {n = 4096 * 4096} tt)
 
 mul-if1 : tie.Need-mul-if1
 mul-if1 c =
-    let a = c .before .before .before .before .before .before .args in
     let p = c .before .before .before .before .before .before .pre in
-    fits-le (cuts-most (a .extents) (a .bands) (p .0) (p .1) .0) (fits-lit {n = 4096 * (4096 * 4096)} tt)
+    fits-le (cuts-most _ _ _ (p .0) _ _ _ _ _ _ (p .1) .0) (fits-lit {n = 4096 * (4096 * 4096)} tt)
 
 with-requires : tie.Need-with-requires
 with-requires c κs = search needs
 
 returns : tie.Need-returns
 returns c =
-    let a = c .before .before .before .before .before .before .before .before .args in
-    ap (λ (m : Model). stepsAt m (a .place)) (c .with .ensures) ∙ steps-low (a .extents) (a .bands) (c .before .before .before .before .before .before .before .before .pre .0) (a .place) (c .before .if1 .taken)
+    let s = c .before .before .before .before .before .before .before .before in
+    ap (λ (m : Model). stepsAt m (s .args .place)) (c .with .ensures) ∙ steps-low _ _ _ (s .pre .0) _ _ _ _ _ _ (s .args .place) (c .before .if1 .taken)
 
 mul-if2 : tie.Need-mul-if2
 mul-if2 c =
-    let a = c .before .before .before .before .before .before .before .before .args in
     let p = c .before .before .before .before .before .before .before .before .pre in
-    fits-le (cuts-most (a .extents) (a .bands) (p .0) (p .1) .1) (fits-lit {n = 4096 * (4096 * 4096)} tt)
+    fits-le (cuts-most _ _ _ (p .0) _ _ _ _ _ _ (p .1) .1) (fits-lit {n = 4096 * (4096 * 4096)} tt)
 
 with-requires-2 : tie.Need-with-requires-2
 with-requires-2 c κs = search needs
 
 returns-2 : tie.Need-returns-2
 returns-2 c =
-    let a = c .before .before .before .before .before .before .before .before .before .before .args in
-    ap (λ (m : Model). stepsAt m (a .place)) (c .with2 .ensures)
-    ∙ steps-middle (a .extents) (a .bands) (c .before .before .before .before .before .before .before .before .before .before .pre .0) (a .place) (c .before .before .before .if1 .left) (c .before .if2 .taken)
+    let s = c .before .before .before .before .before .before .before .before .before .before in
+    ap (λ (m : Model). stepsAt m (s .args .place)) (c .with2 .ensures)
+    ∙ steps-middle _ _ _ (s .pre .0) _ _ _ _ _ _ (s .args .place) (c .before .before .before .if1 .left) (c .before .if2 .taken)
 
 with-requires-3 : tie.Need-with-requires-3
 with-requires-3 c κs = search needs
 
 returns-3 : tie.Need-returns-3
 returns-3 c =
-    let a = c .before .before .before .before .before .before .before .before .before .before .args in
-    ap (λ (m : Model). stepsAt m (a .place)) (c .with3 .ensures)
-    ∙ steps-high (a .extents) (a .bands) (c .before .before .before .before .before .before .before .before .before .before .pre .0) (a .place) (c .before .before .before .if1 .left) (c .before .if2 .left)
+    let s = c .before .before .before .before .before .before .before .before .before .before in
+    ap (λ (m : Model). stepsAt m (s .args .place)) (c .with3 .ensures)
+    ∙ steps-high _ _ _ (s .pre .0) _ _ _ _ _ _ (s .args .place) (c .before .before .before .if1 .left) (c .before .if2 .left)
 
 pub model-at-spec : {M : Type 1} → statement M
 model-at-spec =
