@@ -2,11 +2,9 @@
 use mathlib.Core.Path.{refl}
 use native.Mathlib.Omega.{arith}
 use borrow.Author.Needs.{needs}
-use mathlib.Core.Bool.{not}
 use lib.Ieee.{binary64}
-use lib.Ieee.Scale.{finite}
-use Rattle.rules.specs.Coordinates.{within, outsideAxes}
-use Rattle.places.proofs.Sets.{coordinate-most}
+use Rattle.rules.specs.Coordinates.{outsideAxes}
+use Rattle.places.proofs.ByAxis.{few-axes}
 use Rattle.places.proofs.off.outside_axes2.Statement.{statement}
 use Rattle.places.proofs.off.outside_axes2.Tie as tie
 
@@ -14,7 +12,7 @@ with-coordinate-requires : tie.Need-with-coordinate-requires
 with-coordinate-requires c κs = omega arith
 
 with-coordinate-requires-2 : tie.Need-with-coordinate-requires-2
-with-coordinate-requires-2 c κs = rw (c .with-coordinate .ensures) (omega (arith, coordinate-most (finite (c .before .args .point .y)) (not (within binary64 (c .before .args .extents .y) (c .before .args .point .y))) 0))
+with-coordinate-requires-2 c κs = let a = c .before .args in omega (arith, few-axes binary64 (a .extents .y) (a .point .y) 0 (c .with-coordinate .ensures))
 
 returns : tie.Need-returns
 unfolding outsideAxes
