@@ -1,1 +1,3 @@
 pub mod Passages
+pub mod Crossing
+pub mod Trying
