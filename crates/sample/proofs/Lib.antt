@@ -1,2 +1,3 @@
 pub mod SampleLaws
 pub mod StencilLaws
+pub mod Weighing

@@ -12,7 +12,7 @@ use lib.Dec.{T, leb, ltb, eqb}
 use lib.ListN.{getD}
 use lib.Signed.{nonNeg}
 use lib.Ieee.{Float, nan, inf, fin, Format, up, down, sub, le, lt, eq, toSigned}
-use borrow.Author.Tests.{leb-true, leb-false, ltb-false, eqb-true, le-leb}
+use borrow.Author.Tests.{leb-true, leb-false, ltb-false, eqb-true, le-leb, lt-leb}
 use Rattle.rules.specs.Floats.{zeroF, oneF, numberF}
 use Rattle.rules.specs.RefusalNumbers.{dimensionTooSmall}
 use Rattle.rules.specs.RefusalNumbers.Entries.{firstTooSmall}
@@ -70,6 +70,29 @@ cell-above f e x a h q = go (le zeroF x && le x (numberF f (e - 1))) q
     go : (b : Bool) → cond b (some (foldedAxis f e x (natAbs (truncated x)))) none ≡ some a → a .cell + 1 < e
     go true q = let k : foldedAxis f e x (natAbs (truncated x)) ≡ a = cc in rw k at (folded-above f e x (natAbs (truncated x)) h)
     go false q = let z : _≡_ {A = ℕ} 0 1 = cc in absurd (omega arith)
+
+-- ---- one axis by the tests that the code made: o is its one, n its number of the cell, z its zero, and top its highest coordinate of a stencil
+module _ (f : Format) (e : ℕ) (x : Float) where
+  pub folded : (c : ℕ) {o : Float} → o ≡ oneF → e ≤ c + 1 → _≡_ {A = StencilAxis} (record { cell = e - 2; offset = o }) (foldedAxis f e x c)
+  unfolding foldedAxis
+  folded c h l = rw (le-leb e (c + 1) l, h) refl
+
+  pub in-its-cell : (c : ℕ) {n : Float} → n ≡ numberF f c → c + 1 < e → _≡_ {A = StencilAxis} (record { cell = c; offset = sub f x n }) (foldedAxis f e x c)
+  unfolding foldedAxis
+  in-its-cell c h l = rw (lt-leb e (c + 1) l, h) refl
+
+  module _ {z top : Float} (o : z ≡ zeroF) (l : top ≡ numberF f (e - 1)) where
+    pub below-domain : le z x ≡ false → none ≡ stencilAxis f e x
+    unfolding stencilAxis
+    below-domain p = simp (rw o at p)
+
+    pub above-domain : le z x ≡ true → le x top ≡ false → none ≡ stencilAxis f e x
+    unfolding stencilAxis
+    above-domain p q = simp (rw o at p, rw l at q)
+
+    pub in-domain : {c : ℕ} {a : StencilAxis} → le z x ≡ true → le x top ≡ true → c ≡ natAbs (truncated x) → a ≡ foldedAxis f e x c → some a ≡ stencilAxis f e x
+    unfolding stencilAxis
+    in-domain p q h k = simp (rw o at p, rw l at q, k, h)
 
 -- ---- an axis and the axes after it
 module _ (f : Format) (e : ℕ) (es : List ℕ) (x : Float) (xs : List Float) where

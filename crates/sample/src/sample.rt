@@ -30,8 +30,8 @@ ghost use Rattle.types.specs.Points.{extents2, extents3, point2, point3, vector
 ghost use Rattle.types.specs.Samples.{sample2, sample3};
 ghost use Rattle.types.specs.Answers.{sampleRead2, sampleRead3};
 ghost use Rattle.sample.specs.Stencil.{stencil2, stencil3};
-ghost use Rattle.sample.specs.Sampling.{onEdge, onSquare, onCube, oddsFrom, gradientOver, highestCorner};
-ghost use Rattle.sample.specs.Sampling.{edgeOf, squareOf, edgeTimes, squareTimes, edgeSum, squareSum};
+ghost use Rattle.sample.specs.Sampling.{edgeOf, squareOf, cubeOf, onEdge, onSquare, onCube, oddsFrom, gradientOver, highestCorner};
+ghost use Rattle.sample.specs.Sampling.{atEdge, atSquare, edgeTimes, squareTimes, edgeSum, squareSum};
 ghost use Rattle.sample.specs.Sampling.{alongEdges, alongSquares, betweenEdges, betweenPairs};
 
 // The two cells of a stencil along axis 0: their odds, or their weights, or differences of odds.
@@ -55,7 +55,7 @@ struct Cube {
 // the stencil that it found.
 fn edge_at(odds: &[f64], at: usize) -> Edge
     requires { ⌜ at + 1 < length (now odds) ⌝ }
-    ensures { λ r. ⌜ onEdge r ≡ oddsFrom (now (odds .entry)) at (1 ∷ []) ⌝ }
+    ensures { λ r. ⌜ onEdge (edgeOf r) ≡ oddsFrom (now (odds .entry)) at (1 ∷ []) ⌝ }
 {
     Edge {
         low: odds[at],
@@ -66,7 +66,7 @@ fn edge_at(odds: &[f64], at: usize) -> Edge
 // As above, two rows.
 fn square_at(odds: &[f64], at: usize, row: usize) -> Square
     requires { ⌜ at + row + 1 < length (now odds) ⌝ }
-    ensures { λ r. ⌜ onSquare r ≡ oddsFrom (now (odds .entry)) at (1 ∷ row ∷ []) ⌝ }
+    ensures { λ r. ⌜ onSquare (squareOf r) ≡ oddsFrom (now (odds .entry)) at (1 ∷ row ∷ []) ⌝ }
 {
     Square {
         low: edge_at(odds, at),
@@ -77,7 +77,7 @@ fn square_at(odds: &[f64], at: usize, row: usize) -> Square
 // As above, two planes.
 fn cube_at(odds: &[f64], at: usize, row: usize, plane: usize) -> Cube
     requires { ⌜ at + plane + row + 1 < length (now odds) ⌝ }
-    ensures { λ r. ⌜ onCube r ≡ oddsFrom (now (odds .entry)) at (1 ∷ row ∷ plane ∷ []) ⌝ }
+    ensures { λ r. ⌜ onCube (cubeOf r) ≡ oddsFrom (now (odds .entry)) at (1 ∷ row ∷ plane ∷ []) ⌝ }
 {
     Cube {
         low: square_at(odds, at, row),
@@ -87,7 +87,7 @@ fn cube_at(odds: &[f64], at: usize, row: usize, plane: usize) -> Cube
 
 // The weights of the corners: each starts at 1, and is multiplied by one side of each axis.
 fn edge_weights(x: f64) -> Edge
-    ensures { λ r. ⌜ r ≡ edgeOf (weighed binary64 oneF (x ∷ [])) ⌝ }
+    ensures { λ r. ⌜ edgeOf r ≡ atEdge (weighed binary64 oneF (x ∷ [])) ⌝ }
 {
     Edge {
         low: 1.0 * (1.0 - x),
@@ -96,7 +96,7 @@ fn edge_weights(x: f64) -> Edge
 }
 
 fn square_weights(x: f64, y: f64) -> Square
-    ensures { λ r. ⌜ r ≡ squareOf (weighed binary64 oneF (x ∷ y ∷ [])) ⌝ }
+    ensures { λ r. ⌜ squareOf r ≡ atSquare (weighed binary64 oneF (x ∷ y ∷ [])) ⌝ }
 {
     let w = edge_weights(x);
     Square {
@@ -107,7 +107,7 @@ fn square_weights(x: f64, y: f64) -> Square
 
 // Weights, on one side of the next axis.
 fn edge_times(w: Edge, side: f64) -> Edge
-    ensures { λ r. ⌜ r ≡ edgeTimes w side ⌝ }
+    ensures { λ r. ⌜ edgeOf r ≡ edgeTimes binary64 (edgeOf w) side ⌝ }
 {
     Edge {
         low: w.low * side,
@@ -116,7 +116,7 @@ fn edge_times(w: Edge, side: f64) -> Edge
 }
 
 fn square_times(w: Square, side: f64) -> Square
-    ensures { λ r. ⌜ r ≡ squareTimes w side ⌝ }
+    ensures { λ r. ⌜ squareOf r ≡ squareTimes binary64 (squareOf w) side ⌝ }
 {
     let low = w.low;
     let high = w.high;
@@ -128,13 +128,13 @@ fn square_times(w: Square, side: f64) -> Square
 
 // A sum, and what the corners add to it, ascending.
 fn edge_sum(sum: f64, w: Edge, odds: Edge) -> f64
-    ensures { λ r. ⌜ r ≡ edgeSum sum w odds ⌝ }
+    ensures { λ r. ⌜ r ≡ edgeSum binary64 sum (edgeOf w) (edgeOf odds) ⌝ }
 {
     sum + w.low * odds.low + w.high * odds.high
 }
 
 fn square_sum(sum: f64, w: Square, odds: Square) -> f64
-    ensures { λ r. ⌜ r ≡ squareSum sum w odds ⌝ }
+    ensures { λ r. ⌜ r ≡ squareSum binary64 sum (squareOf w) (squareOf odds) ⌝ }
 {
     let w_low = w.low;
     let w_high = w.high;
@@ -145,19 +145,19 @@ fn square_sum(sum: f64, w: Square, odds: Square) -> f64
 
 // The interpolated value over the corners of one axis, of two and of three.
 fn value1(x: f64, edge: Edge) -> f64
-    ensures { λ r. ⌜ r ≡ valueFrom binary64 zeroF (x ∷ []) (onEdge edge) (corners 1) ⌝ }
+    ensures { λ r. ⌜ r ≡ valueFrom binary64 zeroF (x ∷ []) (onEdge (edgeOf edge)) (corners 1) ⌝ }
 {
     edge_sum(0.0, edge_weights(x), edge)
 }
 
 fn value2(x: f64, y: f64, square: Square) -> f64
-    ensures { λ r. ⌜ r ≡ valueFrom binary64 zeroF (x ∷ y ∷ []) (onSquare square) (corners 2) ⌝ }
+    ensures { λ r. ⌜ r ≡ valueFrom binary64 zeroF (x ∷ y ∷ []) (onSquare (squareOf square)) (corners 2) ⌝ }
 {
     square_sum(0.0, square_weights(x, y), square)
 }
 
 fn value3(x: f64, y: f64, z: f64, cube: Cube) -> f64
-    ensures { λ r. ⌜ r ≡ valueFrom binary64 zeroF (x ∷ y ∷ z ∷ []) (onCube cube) (corners 3) ⌝ }
+    ensures { λ r. ⌜ r ≡ valueFrom binary64 zeroF (x ∷ y ∷ z ∷ []) (onCube (cubeOf cube)) (corners 3) ⌝ }
 {
     let w = square_weights(x, y);
     let low = cube.low;
@@ -168,7 +168,7 @@ fn value3(x: f64, y: f64, z: f64, cube: Cube) -> f64
 
 // The differences, high less low: along edges, which lie along axis 0, and from one edge to another across a later axis.
 fn along_edges(square: Square) -> Edge
-    ensures { λ r. ⌜ r ≡ alongEdges square ⌝ }
+    ensures { λ r. ⌜ edgeOf r ≡ alongEdges binary64 (squareOf square) ⌝ }
 {
     let low = square.low;
     let high = square.high;
@@ -179,7 +179,7 @@ fn along_edges(square: Square) -> Edge
 }
 
 fn along_squares(low: Square, high: Square) -> Square
-    ensures { λ r. ⌜ r ≡ alongSquares low high ⌝ }
+    ensures { λ r. ⌜ squareOf r ≡ alongSquares binary64 (squareOf low) (squareOf high) ⌝ }
 {
     Square {
         low: along_edges(low),
@@ -188,7 +188,7 @@ fn along_squares(low: Square, high: Square) -> Square
 }
 
 fn between_edges(low: Edge, high: Edge) -> Edge
-    ensures { λ r. ⌜ r ≡ betweenEdges low high ⌝ }
+    ensures { λ r. ⌜ edgeOf r ≡ betweenEdges binary64 (edgeOf low) (edgeOf high) ⌝ }
 {
     Edge {
         low: high.low - low.low,
@@ -198,7 +198,7 @@ fn between_edges(low: Edge, high: Edge) -> Edge
 
 // From a to b, and from c to d.
 fn between_pairs(a: Edge, b: Edge, c: Edge, d: Edge) -> Square
-    ensures { λ r. ⌜ r ≡ betweenPairs a b c d ⌝ }
+    ensures { λ r. ⌜ squareOf r ≡ betweenPairs binary64 (edgeOf a) (edgeOf b) (edgeOf c) (edgeOf d) ⌝ }
 {
     Square {
         low: between_edges(a, b),
@@ -208,7 +208,7 @@ fn between_pairs(a: Edge, b: Edge, c: Edge, d: Edge) -> Square
 
 // The gradient: along each axis, the value of the differences across it, over the axes left.
 fn gradient2(x: f64, y: f64, square: Square) -> Vector2
-    ensures { λ r. ⌜ vector2 r ≡ gradientOver binary64 (x ∷ y ∷ []) (onSquare square) ⌝ }
+    ensures { λ r. ⌜ vector2 r ≡ gradientOver binary64 (x ∷ y ∷ []) (onSquare (squareOf square)) ⌝ }
 {
     let low = square.low;
     let high = square.high;
@@ -219,7 +219,7 @@ fn gradient2(x: f64, y: f64, square: Square) -> Vector2
 }
 
 fn gradient3(x: f64, y: f64, z: f64, cube: Cube) -> Vector3
-    ensures { λ r. ⌜ vector3 r ≡ gradientOver binary64 (x ∷ y ∷ z ∷ []) (onCube cube) ⌝ }
+    ensures { λ r. ⌜ vector3 r ≡ gradientOver binary64 (x ∷ y ∷ z ∷ []) (onCube (cubeOf cube)) ⌝ }
 {
     let low = cube.low;
     let high = cube.high;

@@ -1,5 +1,7 @@
 -- Each edge of the answer is the differences between two edges.
+use lib.Ieee.{binary64}
 use borrow.Author.Needs.{needs}
+use Rattle.sample.proofs.Weighing.{between-pairs}
 use Rattle.sample.proofs.sample.between_pairs.Statement.{statement}
 use Rattle.sample.proofs.sample.between_pairs.Tie as tie
 
@@ -10,7 +12,7 @@ between-edges-requires-2 : tie.Need-between-edges-requires-2
 between-edges-requires-2 c κs = search needs
 
 returns : tie.Need-returns
-returns c = rw (c .between-edges2 .ensures, c .before .between-edges .ensures)
+returns c = between-pairs binary64 _ _ _ _ (c .before .between-edges .ensures) (c .between-edges2 .ensures)
 
 pub between-pairs-spec : {M : Type 1} → statement M
 between-pairs-spec = tie.close (tie.spec between-edges-requires between-edges-requires-2 returns)

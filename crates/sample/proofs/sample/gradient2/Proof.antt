@@ -1,7 +1,7 @@
 -- The rule of the gradient, computed over four corners, is along each axis that of the value over the differences.
-use Rattle.rules.specs.Coordinates.{corners, weighed, weighedWithout, valueFrom, slopeFrom, gradientFrom}
-use Rattle.sample.specs.Sampling.{gradientOver}
+use lib.Ieee.{binary64}
 use borrow.Author.Needs.{needs}
+use Rattle.sample.proofs.Weighing.{gradient-two}
 use Rattle.sample.proofs.sample.gradient2.Statement.{statement}
 use Rattle.sample.proofs.sample.gradient2.Tie as tie
 
@@ -18,8 +18,8 @@ value1-requires-2 : tie.Need-value1-requires-2
 value1-requires-2 c κs = search needs
 
 returns : tie.Need-returns
-unfolding gradientOver valueFrom slopeFrom gradientFrom weighed weighedWithout corners
-returns c = rw (c .value12 .ensures, c .before .between-edges .ensures, c .before .before .value1 .ensures, c .before .before .before .along-edges .ensures)
+returns c =
+    gradient-two binary64 _ _ _ (c .before .before .before .along-edges .ensures) (c .before .before .value1 .ensures) (c .before .between-edges .ensures) (c .value12 .ensures)
 
 pub gradient2-spec : {M : Type 1} → statement M
 gradient2-spec =

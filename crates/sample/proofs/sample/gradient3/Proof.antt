@@ -1,7 +1,7 @@
 -- The rule of the gradient, computed over eight corners, is along each axis that of the value over the differences.
-use Rattle.rules.specs.Coordinates.{corners, weighed, weighedWithout, valueFrom, slopeFrom, gradientFrom}
-use Rattle.sample.specs.Sampling.{gradientOver}
+use lib.Ieee.{binary64}
 use borrow.Author.Needs.{needs}
+use Rattle.sample.proofs.Weighing.{gradient-three}
 use Rattle.sample.proofs.sample.gradient3.Statement.{statement}
 use Rattle.sample.proofs.sample.gradient3.Tie as tie
 
@@ -24,17 +24,10 @@ value2-requires-3 : tie.Need-value2-requires-3
 value2-requires-3 c κs = search needs
 
 returns : tie.Need-returns
-unfolding gradientOver valueFrom slopeFrom gradientFrom weighed weighedWithout corners
 returns c =
     let b = c .before .before .before in
-    rw (
-      c .value23 .ensures,
-      c .before .between-pairs2 .ensures,
-      c .before .before .value22 .ensures,
-      b .between-pairs .ensures,
-      b .before .value2 .ensures,
-      b .before .before .along-squares .ensures,
-    )
+    gradient-three binary64 _ _ _ _ (b .before .before .along-squares .ensures) (b .before .value2 .ensures) (b .between-pairs .ensures) (c .before .before .value22 .ensures)
+    (c .before .between-pairs2 .ensures) (c .value23 .ensures)
 
 pub gradient3-spec : {M : Type 1} → statement M
 gradient3-spec =

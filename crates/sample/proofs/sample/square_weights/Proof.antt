@@ -1,7 +1,8 @@
 -- The weights of an edge, once more for each side of the second axis: the rule of a weight, computed at four corners.
-use lib.Ieee.{ofBits}
-use Rattle.rules.specs.Coordinates.{weighed}
+use lib.Ieee.{binary64}
+use Rattle.laws.specs.Literals.{one-is}
 use borrow.Author.Needs.{needs}
+use Rattle.sample.proofs.Weighing.{square-weighed}
 use Rattle.sample.proofs.sample.square_weights.Statement.{statement}
 use Rattle.sample.proofs.sample.square_weights.Tie as tie
 
@@ -15,8 +16,7 @@ edge-times-requires-2 : tie.Need-edge-times-requires-2
 edge-times-requires-2 c κs = search needs
 
 returns : tie.Need-returns
-unfolding ofBits weighed
-returns c = rw (c .edge-times2 .ensures, c .before .edge-times .ensures, c .before .before .edge-weights .ensures)
+returns c = square-weighed binary64 _ _ (one-is binary64) (c .before .before .edge-weights .ensures) (c .before .edge-times .ensures) (c .edge-times2 .ensures)
 
 pub square-weights-spec : {M : Type 1} → statement M
 square-weights-spec =

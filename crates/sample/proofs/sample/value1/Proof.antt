@@ -1,7 +1,8 @@
 -- The rule of the value, computed over two corners.
-use lib.Ieee.{ofBits}
-use Rattle.rules.specs.Coordinates.{corners, weighed, valueFrom}
+use lib.Ieee.{binary64}
+use Rattle.laws.specs.Literals.{zero-is}
 use borrow.Author.Needs.{needs}
+use Rattle.sample.proofs.Weighing.{value-one}
 use Rattle.sample.proofs.sample.value1.Statement.{statement}
 use Rattle.sample.proofs.sample.value1.Tie as tie
 
@@ -12,8 +13,7 @@ edge-sum-requires : tie.Need-edge-sum-requires
 edge-sum-requires c κs = search needs
 
 returns : tie.Need-returns
-unfolding ofBits valueFrom weighed corners
-returns c = rw (c .edge-sum .ensures, c .before .edge-weights .ensures)
+returns c = value-one binary64 _ _ (zero-is binary64) (c .before .edge-weights .ensures) (c .edge-sum .ensures)
 
 pub value1-spec : {M : Type 1} → statement M
 value1-spec = tie.close (tie.spec edge-weights-requires edge-sum-requires returns)

@@ -1,7 +1,8 @@
 -- The rule of the value, computed over four corners.
-use lib.Ieee.{ofBits}
-use Rattle.rules.specs.Coordinates.{corners, weighed, valueFrom}
+use lib.Ieee.{binary64}
+use Rattle.laws.specs.Literals.{zero-is}
 use borrow.Author.Needs.{needs}
+use Rattle.sample.proofs.Weighing.{value-two}
 use Rattle.sample.proofs.sample.value2.Statement.{statement}
 use Rattle.sample.proofs.sample.value2.Tie as tie
 
@@ -12,8 +13,7 @@ square-sum-requires : tie.Need-square-sum-requires
 square-sum-requires c κs = search needs
 
 returns : tie.Need-returns
-unfolding ofBits valueFrom weighed corners
-returns c = rw (c .square-sum .ensures, c .before .square-weights .ensures)
+returns c = value-two binary64 _ _ _ (zero-is binary64) (c .before .square-weights .ensures) (c .square-sum .ensures)
 
 pub value2-spec : {M : Type 1} → statement M
 value2-spec = tie.close (tie.spec square-weights-requires square-sum-requires returns)

@@ -1,10 +1,9 @@
 -- The code's test is the rule's.
-use Prim.Native.Nat.{_+_}
 use native.Mathlib.Omega.{arith}
-use borrow.Author.Tests.{le-leb, lt-leb}
-use lib.Ieee.{ofBits}
-use Rattle.rules.specs.Coordinates.{foldedAxis}
+use lib.Ieee.{binary64}
 use borrow.Author.Needs.{needs}
+use Rattle.laws.specs.Literals.{one-is}
+use Rattle.sample.proofs.StencilLaws.{folded, in-its-cell}
 use Rattle.sample.proofs.stencil.folded_axis.Statement.{statement}
 use Rattle.sample.proofs.stencil.folded_axis.Tie as tie
 
@@ -18,12 +17,10 @@ number-of-requires : tie.Need-number-of-requires
 number-of-requires c κs = search needs
 
 returns : tie.Need-returns
-unfolding foldedAxis ofBits
-returns c = rw (le-leb (c .before .args .extent) (c .before .args .cell + 1) (omega arith))
+returns c = folded binary64 _ _ _ (one-is binary64) (omega arith)
 
 returns-2 : tie.Need-returns-2
-unfolding foldedAxis
-returns-2 c = rw (lt-leb (c .before .before .args .extent) (c .before .before .args .cell + 1) (omega arith), c .number-of .ensures)
+returns-2 c = in-its-cell binary64 _ _ _ (c .number-of .ensures) (omega arith)
 
 pub folded-axis-spec : {M : Type 1} → statement M
 folded-axis-spec =
