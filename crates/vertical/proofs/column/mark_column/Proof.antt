@@ -5,9 +5,9 @@ use native.Mathlib.Nat.{mul-le-mul}
 use native.Mathlib.Omega.{arith}
 use borrow.Author.Needs.{needs}
 use denote.Ref.{now}
+use lib.Ieee.{binary64}
 use mir.Facts.{fits-le, fits-lit}
 use mir.Val.{boolByte}
-use lib.Ieee.{binary64}
 use Rattle.laws.specs.Room.{room-most}
 use Rattle.grid_map.specs.Heads.{head3}
 use Rattle.vertical.proofs.Climbing.{next-place, place-below, place-is, Climbing, starts, counts, goes-up, ends}
@@ -60,7 +60,7 @@ add-count c =
     let l = w .level in
     let t = c .before .before .before .before .before .before .before .loop-test .taken in
     let lt = place-below _ _ _ _ _ _ _ (w .place) (s .pre .1 .0) (s .pre .1 .1 .0) (omega arith) in
-    let step = counts _ _ _ _ _ _ _ _ _ _ _ _ _ _ _ _ _ w lt (c .before .before .before .before .mark-place3 .ensures) .used in
+    let step = counts _ _ _ _ _ _ _ _ _ _ _ _ _ _ _ _ _ _ w lt (c .before .before .before .before .mark-place3 .ensures) .used in
     let most = room-most (s .args .map .frame .0) (now (s .args .stamps)) in
     let counted = s .pre .0 .stamps-count in
     let few = s .pre .0 .extents .1 in
@@ -115,7 +115,7 @@ add-result c =
     let h = s .pre .1 .1 .1 in
     let l = w .level in
     let lt = place-below _ _ _ _ _ _ _ (w .place) (s .pre .1 .0) (s .pre .1 .1 .0) (omega arith) in
-    let step = counts _ _ _ _ _ _ _ _ _ _ _ _ _ _ _ _ _ w lt (c .before .before .before .before .mark-place32 .ensures) .used in
+    let step = counts _ _ _ _ _ _ _ _ _ _ _ _ _ _ _ _ _ _ w lt (c .before .before .before .before .mark-place32 .ensures) .used in
     let most = room-most (s .args .map .frame .0) (now (s .args .stamps)) in
     let counted = s .pre .0 .stamps-count in
     let few = s .pre .0 .extents .1 in
