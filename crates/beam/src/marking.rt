@@ -70,7 +70,8 @@ pub fn mark_cell2(
     occupied: bool,
 ) -> u64
     requires { ⌜ Ready (head2 map) (length (now odds)) (length (now stamps)) ⌝ }
-    ensures { λ r. ⌜ Applied binary64 (markOf occupied (flatIndex (extents2 (map .extents)) (cell2 cell))) (modelOf (map .model)) (map .frame .0)
+    ensures { λ r. ⌜ Applied binary64 (markOf occupied (flatIndex (extents2 (map .extents)) (cell2 cell)))
+        (modelOf (map .model)) (map .frame .0)
         (now (odds .entry)) (now (stamps .entry)) r (now (odds .exit)) (now (stamps .exit)) ⌝ }
 {
     match translate_to_index2(map.extents, cell) {
@@ -88,7 +89,8 @@ pub fn mark_cell3(
     occupied: bool,
 ) -> u64
     requires { ⌜ Ready (head3 map) (length (now odds)) (length (now stamps)) ⌝ }
-    ensures { λ r. ⌜ Applied binary64 (markOf occupied (flatIndex (extents3 (map .extents)) (cell3 cell))) (bandsOf (map .extents) (map .bands)) (map .frame .0)
+    ensures { λ r. ⌜ Applied binary64 (markOf occupied (flatIndex (extents3 (map .extents)) (cell3 cell)))
+        (bandsOf (map .extents) (map .bands)) (map .frame .0)
         (now (odds .entry)) (now (stamps .entry)) r (now (odds .exit)) (now (stamps .exit)) ⌝ }
 {
     match translate_to_index3(map.extents, cell) {

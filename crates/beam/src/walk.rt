@@ -43,7 +43,8 @@ fn walk2(
     occupied: bool,
 ) -> u64
     requires { ⌜ Ready (head2 map) (length (now odds)) (length (now stamps)) ⌝ }
-    ensures { λ r. ⌜ Applied binary64 (marksAlong (extents2 (map .extents)) occupied (lineCells binary64 (line2 line))) (modelOf (map .model)) (map .frame .0)
+    ensures { λ r. ⌜ Applied binary64 (marksAlong (extents2 (map .extents)) occupied (lineCells binary64 (line2 line)))
+        (modelOf (map .model)) (map .frame .0)
         (now (odds .entry)) (now (stamps .entry)) r (now (odds .exit)) (now (stamps .exit)) ⌝ }
 {
     let mut rest = line;
@@ -69,7 +70,8 @@ fn walk3(
     occupied: bool,
 ) -> u64
     requires { ⌜ Ready (head3 map) (length (now odds)) (length (now stamps)) ⌝ }
-    ensures { λ r. ⌜ Applied binary64 (marksAlong (extents3 (map .extents)) occupied (lineCells binary64 (line3 line))) (bandsOf (map .extents) (map .bands)) (map .frame .0)
+    ensures { λ r. ⌜ Applied binary64 (marksAlong (extents3 (map .extents)) occupied (lineCells binary64 (line3 line)))
+        (bandsOf (map .extents) (map .bands)) (map .frame .0)
         (now (odds .entry)) (now (stamps .entry)) r (now (odds .exit)) (now (stamps .exit)) ⌝ }
 {
     let mut rest = line;
@@ -96,7 +98,8 @@ pub fn walk_drawn2(
     occupied: bool,
 ) -> u64
     requires { ⌜ Ready (head2 map) (length (now odds)) (length (now stamps)) ⌝ ∗ ⌜ Drawn (line2 line) ⌝ }
-    ensures { λ r. ⌜ Applied binary64 (marksAlong (extents2 (map .extents)) occupied (lineCells binary64 (line2 line))) (modelOf (map .model)) (map .frame .0)
+    ensures { λ r. ⌜ Applied binary64 (marksAlong (extents2 (map .extents)) occupied (lineCells binary64 (line2 line)))
+        (modelOf (map .model)) (map .frame .0)
         (now (odds .entry)) (now (stamps .entry)) r (now (odds .exit)) (now (stamps .exit)) ⌝ }
 {
     let part = follow2(map, odds, stamps, line);
@@ -116,7 +119,8 @@ pub fn walk_drawn3(
     occupied: bool,
 ) -> u64
     requires { ⌜ Ready (head3 map) (length (now odds)) (length (now stamps)) ⌝ ∗ ⌜ Drawn (line3 line) ⌝ }
-    ensures { λ r. ⌜ Applied binary64 (marksAlong (extents3 (map .extents)) occupied (lineCells binary64 (line3 line))) (bandsOf (map .extents) (map .bands)) (map .frame .0)
+    ensures { λ r. ⌜ Applied binary64 (marksAlong (extents3 (map .extents)) occupied (lineCells binary64 (line3 line)))
+        (bandsOf (map .extents) (map .bands)) (map .frame .0)
         (now (odds .entry)) (now (stamps .entry)) r (now (odds .exit)) (now (stamps .exit)) ⌝ }
 {
     let part = follow3(map, odds, stamps, line);

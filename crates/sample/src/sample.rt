@@ -30,7 +30,8 @@ ghost use Rattle.types.specs.Points.{extents2, extents3, point2, point3, vector
 ghost use Rattle.types.specs.Samples.{sample2, sample3};
 ghost use Rattle.types.specs.Answers.{sampleRead2, sampleRead3};
 ghost use Rattle.sample.specs.Stencil.{stencil2, stencil3};
-ghost use Rattle.sample.specs.Sampling.{edgeOf, squareOf, cubeOf, onEdge, onSquare, onCube, oddsFrom, gradientOver, highestCorner};
+ghost use Rattle.sample.specs.Sampling.{edgeOf, squareOf, cubeOf, onEdge, onSquare, onCube};
+ghost use Rattle.sample.specs.Sampling.{oddsFrom, gradientOver, highestCorner};
 ghost use Rattle.sample.specs.Sampling.{atEdge, atSquare, edgeTimes, squareTimes, edgeSum, squareSum};
 ghost use Rattle.sample.specs.Sampling.{alongEdges, alongSquares, betweenEdges, betweenPairs};
 

@@ -26,7 +26,8 @@ pub fn mark_column(
 ) -> u64
     requires { ⌜ Ready (head3 map) (length (now odds)) (length (now stamps)) ⌝
         ∗ ⌜ x < map .extents .x ⌝ ∗ ⌜ y < map .extents .y ⌝ ∗ ⌜ bottom + above < map .extents .z ⌝ }
-    ensures { λ r. ⌜ Applied binary64 (columnMarks (extents3 (map .extents)) x y occupied bottom above) (bandsOf (map .extents) (map .bands)) (map .frame .0)
+    ensures { λ r. ⌜ Applied binary64 (columnMarks (extents3 (map .extents)) x y occupied bottom above)
+        (bandsOf (map .extents) (map .bands)) (map .frame .0)
         (now (odds .entry)) (now (stamps .entry)) r (now (odds .exit)) (now (stamps .exit)) ⌝ }
 {
     let extents = map.extents;

@@ -26,7 +26,8 @@ use types::VerticalBeam;
 fn mark_vertical(map: GridMap3, odds: &mut [f64], stamps: &mut [u32], beam: VerticalBeam) -> u64
     requires { ⌜ Ready (head3 map) (length (now odds)) (length (now stamps)) ⌝
         ∗ ⌜ inProfile (extents3 (map .extents)) (vertical beam) ≡ true ⌝ }
-    ensures { λ r. ⌜ Applied binary64 (verticalMarks (extents3 (map .extents)) (vertical beam)) (bandsOf (map .extents) (map .bands)) (map .frame .0)
+    ensures { λ r. ⌜ Applied binary64 (verticalMarks (extents3 (map .extents)) (vertical beam))
+        (bandsOf (map .extents) (map .bands)) (map .frame .0)
         (now (odds .entry)) (now (stamps .entry)) r (now (odds .exit)) (now (stamps .exit)) ⌝ }
 {
     let above = cells_above(map.extents, beam);

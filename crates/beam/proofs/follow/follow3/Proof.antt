@@ -5,8 +5,8 @@ use mathlib.Core.Path.{refl, sym, ap, _∙_}
 use native.Mathlib.Omega.{arith}
 use borrow.Author.Needs.{needs}
 use denote.Ref.{now}
-use mir.Val.{boolByte}
 use lib.Ieee.{binary64}
+use mir.Val.{boolByte}
 use Rattle.rules.specs.TheLine.{Line, axesAfter}
 use Rattle.laws.specs.Places.{place-lt}
 use Rattle.laws.specs.Room.{room-most}
