@@ -16,7 +16,7 @@ use grid_map::GridMap3;
 use marks::mark_free_at;
 use marks::mark_occupied_at;
 use marks::model_at;
-use marks::steps_at;
+use marks::steps_of;
 use places::Place;
 use places::translate_to_index2;
 use places::translate_to_index3;
@@ -38,7 +38,7 @@ pub fn mark_place(
     ensures { λ r. ⌜ MarkedAt binary64 occupied (stepsAt (modelOf model) at) (frame .0) at
         (now (odds .entry)) (now (stamps .entry)) r (now (odds .exit)) (now (stamps .exit)) ⌝ }
 {
-    let s = steps_at(model, at);
+    let s = steps_of(model);
     if occupied {
         return mark_occupied_at(odds, stamps, at, s, frame);
     }

@@ -159,7 +159,7 @@ impl GridMap2 {
             Check::Passed => match translate_to_index2(self.extents, cell) {
                 Place::Refused(r) => SetAnswer::Refused(r),
                 Place::At(i) => {
-                    set_log_odds_at(odds, i, self.model, value);
+                    set_log_odds_at(odds, i, self.model.ceiling, value);
                     SetAnswer::Done
                 }
             },
@@ -175,7 +175,7 @@ impl GridMap2 {
             Check::Refused(r) => SetAnswer::Refused(r),
             Check::Passed => {
                 let place = translate_to_index2(self.extents, cell);
-                set_checked_at(odds, place, self.model, value)
+                set_checked_at(odds, place, self.model.ceiling, value)
             }
         }
     }

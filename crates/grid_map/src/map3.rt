@@ -159,7 +159,7 @@ impl GridMap3 {
             Check::Passed => match translate_to_index3(self.extents, cell) {
                 Place::Refused(r) => SetAnswer::Refused(r),
                 Place::At(i) => {
-                    set_log_odds_at(odds, i, self.bands.lowest(), value);
+                    set_log_odds_at(odds, i, self.bands.ceiling, value);
                     SetAnswer::Done
                 }
             },
@@ -175,7 +175,7 @@ impl GridMap3 {
             Check::Refused(r) => SetAnswer::Refused(r),
             Check::Passed => {
                 let place = translate_to_index3(self.extents, cell);
-                set_checked_at(odds, place, self.bands.lowest(), value)
+                set_checked_at(odds, place, self.bands.ceiling, value)
             }
         }
     }

@@ -8,14 +8,9 @@ use mathlib.Core.Path.{_≡_, refl, sym, ap}
 use native.Mathlib.Omega.{arith}
 use native.Mathlib.Nat.{div-lt-iff-lt-mul, not-le-of-lt}
 use lib.Dec.{T, ltb, ltb→lt}
-use lib.ListN.{set}
-use lib.Ieee.{Float, neg, isNan}
 use lib.Ieee.Fits.{and-l, and-r}
 use borrow.Author.Tests.{ltb-true, ltb-false, lt-ltb, le-ltb}
-use Rattle.rules.specs.TheGridAndItsBounds.{Pair, Band, Model, allPairs, pairAt, rising, cutsBelow, lastExtent, cutsInBounds, floor}
-use Rattle.rules.specs.MarksAndFrames.{stepsAt, clamp, limited, setOdds}
-use Rattle.rules.specs.RefusalNumbers.{Answer, given, refused, oddsNotANumber}
-use Rattle.rules.specs.RefusalNumbers.Entries.{checkedAnswer}
+use Rattle.rules.specs.TheGridAndItsBounds.{Pair, Band, Model, allPairs, pairAt, rising, cutsBelow, lastExtent, cutsInBounds}
 use Rattle.rules.specs.MapRecord.{bandsFrom}
 use Rattle.laws.specs.Floats.Tests.{order}
 
@@ -72,15 +67,3 @@ cuts-below es m t = go (m .above) t
     go : (bs : List Band) → T (cutsBelow (lastExtent es) bs) → CutsBelow bs (lastExtent es)
     go [] u = tt
     go (b ∷ bs) u = unfold cutsBelow in rising-below 0 (b ∷ bs) (lastExtent es) u .1
-
--- ---- the bounds are all bands'
-pub set-by-ceiling : (m k : Model) → m .ceiling ≡ k .ceiling → (place : ℕ) (x : Float) (odds : List Float) → setOdds m place x odds ≡ setOdds k place x odds
-unfolding setOdds limited stepsAt floor
-set-by-ceiling m k e place x odds = ap (λ (c : Float). set odds place (clamp (neg c) c x)) e
-
-pub checked-by-ceiling : (m k : Model) → m .ceiling ≡ k .ceiling → (x : Float) (odds : List Float) (place : Answer ℕ)
-    → checkedAnswer m x odds place ≡ checkedAnswer k x odds place
-checked-by-ceiling m k e x odds (refused r) = refl
-checked-by-ceiling m k e x odds (given i) =
-    ap (λ (l : List Float). cond (isNan x) (record { answer = refused oddsNotANumber; lent = odds }) (record { answer = given tt; lent = l }))
-    (set-by-ceiling m k e i x odds)

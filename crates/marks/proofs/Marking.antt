@@ -3,26 +3,32 @@ use Prim.Native.Nat.{ℕ, _/_}
 use mathlib.Core.Bool.{Bool, true, false}
 use mathlib.Core.List.{List}
 use mathlib.Core.Path.{_≡_, sym, ap, _∙_}
-use lib.Ieee.{Float, nan, Format, sub, lt, le}
+use lib.Ieee.{Float, nan, Format, neg, sub, lt, le}
 use lib.ListN.{getD, set}
 use lib.Seq.{set-getD}
 use borrow.Author.Tests.{eq-eqb, ne-eqb}
-use Rattle.rules.specs.MarksAndFrames.{Steps, Cell, Marked, unmarked, cellAt, stampOf, clamp, limited, freed, occupiedStep, occupy, markFree, markOccupied, markCell}
+use Rattle.rules.specs.MarksAndFrames.{Steps, Cell, Marked, unmarked, cellAt, stampOf, clamp, limited, stepsAt, setOdds, freed, occupiedStep, occupy, markFree, markOccupied, markCell}
+use Rattle.rules.specs.TheGridAndItsBounds.{Model, floor}
 use Rattle.marks.specs.Marking.{gridOf, cellOf, markOn, MarkedAt}
 
 -- ---- the bounds
-module _ (s : Steps) (x : Float) where
-  pub to-floor : lt x (s .floor) ≡ true → s .floor ≡ limited s x
-  unfolding limited clamp
+module _ (lo hi x : Float) where
+  pub to-floor : lt x lo ≡ true → lo ≡ clamp lo hi x
+  unfolding clamp
   to-floor l = rw l
 
-  pub to-ceiling : lt x (s .floor) ≡ false → lt (s .ceiling) x ≡ true → s .ceiling ≡ limited s x
-  unfolding limited clamp
+  pub to-ceiling : lt x lo ≡ false → lt hi x ≡ true → hi ≡ clamp lo hi x
+  unfolding clamp
   to-ceiling l h = rw (l, h)
 
-  pub in-bounds : lt x (s .floor) ≡ false → lt (s .ceiling) x ≡ false → x ≡ limited s x
-  unfolding limited clamp
+  pub in-bounds : lt x lo ≡ false → lt hi x ≡ false → x ≡ clamp lo hi x
+  unfolding clamp
   in-bounds l h = rw (l, h)
+
+-- odds that are set use a model's ceiling alone
+pub set-by-ceiling : (m : Model) (c : Float) (place : ℕ) (x : Float) (odds : List Float) → m .ceiling ≡ c → set odds place (clamp (neg c) c x) ≡ setOdds m place x odds
+unfolding setOdds limited stepsAt floor
+set-by-ceiling m c place x odds e = ap (λ (k : Float). set odds place (clamp (neg k) k x)) (sym e)
 
 -- ---- what an occupied mark adds: n is the code's number of a free stamp of this frame
 module _ (f : Format) (s : Steps) (frame : ℕ) (odds : Float) (stamp : ℕ) {n : ℕ} (e : n ≡ stampOf frame false) where

@@ -5,14 +5,12 @@ ghost use lib.ListN.{length};
 ghost use Rattle.rules.specs.RefusalNumbers.{given};
 ghost use Rattle.rules.specs.RefusalNumbers.Entries.{readAt, checkedAnswer};
 ghost use Rattle.rules.specs.MarksAndFrames.{setOdds};
+ghost use Rattle.rules.specs.TheGridAndItsBounds.{Model};
 ghost use Rattle.types.specs.Answers.{cellRead, setAnswer};
-ghost use Rattle.types.specs.Models.{modelOf};
 ghost use Rattle.places.specs.Places.{placeOf};
-use crate::marks::limited;
-use crate::marks::steps_at;
+use crate::marks::clamp;
 use places::Place;
 use types::CellRead;
-use types::Model;
 use types::Refusal;
 use types::SetAnswer;
 
@@ -27,18 +25,20 @@ pub fn read_at(odds: &[f64], place: Place) -> CellRead
     }
 }
 
-// Overwrites a cell's odds, bypassing the steps and the stamp; NaN is stored as it is. The place is one of the list's.
-pub fn set_log_odds_at(odds: &mut [f64], at: usize, model: Model, x: f64)
+// Overwrites a cell's odds, bypassing the steps and the stamp; NaN is stored as it is. Of a model its ceiling alone is used. The place is one of
+// the list's.
+pub fn set_log_odds_at(odds: &mut [f64], at: usize, ceiling: f64, x: f64)
     requires { ⌜ at < length (now odds) ⌝ }
-    ensures { λ _. ⌜ now (odds .exit) ≡ setOdds (modelOf model) at x (now (odds .entry)) ⌝ }
+    ensures { λ _. ⌜ ((m : Model) → m .ceiling ≡ ceiling → now (odds .exit) ≡ setOdds m at x (now (odds .entry))) ⌝ }
 {
-    odds[at] = limited(steps_at(model, at), x);
+    odds[at] = clamp(-ceiling, ceiling, x);
 }
 
 // The same at a place that may be refused, for a number: NaN is refused, after the place. A place that was found is one of the list's.
-pub fn set_checked_at(odds: &mut [f64], place: Place, model: Model, x: f64) -> SetAnswer
+pub fn set_checked_at(odds: &mut [f64], place: Place, ceiling: f64, x: f64) -> SetAnswer
     requires { ⌜ ((i : ℕ) → placeOf place ≡ given i → i < length (now odds)) ⌝ }
-    ensures { λ r. ⌜ record { answer = setAnswer r; lent = now (odds .exit) } ≡ checkedAnswer (modelOf model) x (now (odds .entry)) (placeOf place) ⌝ }
+    ensures { λ r. ⌜ ((m : Model) → m .ceiling ≡ ceiling
+        → record { answer = setAnswer r; lent = now (odds .exit) } ≡ checkedAnswer m x (now (odds .entry)) (placeOf place)) ⌝ }
 {
     match place {
         Place::Refused(r) => SetAnswer::Refused(r),
@@ -46,7 +46,7 @@ pub fn set_checked_at(odds: &mut [f64], place: Place, model: Model, x: f64) -> S
             if x != x {
                 return SetAnswer::Refused(Refusal::Odds);
             }
-            set_log_odds_at(odds, i, model, x);
+            set_log_odds_at(odds, i, ceiling, x);
             SetAnswer::Done
         }
     }

@@ -16,4 +16,4 @@ pub use frames::opened;
 pub use marks::Steps;
 pub use marks::mark_free_at;
 pub use marks::mark_occupied_at;
-pub use marks::steps_at;
+pub use marks::steps_of;

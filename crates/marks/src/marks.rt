@@ -1,8 +1,8 @@
 // One mark on one cell of the lent odds and stamps: the original's mark_free_at and mark_occupied_at. A mark takes the steps and the bounds of
-// its cell as numbers, from `steps_at`; which cell it is on stands in `index`.
+// its cell as numbers, from `steps_of`; which cell it is on is `places`' to find.
 ghost use mathlib.Core.Path.{_≡_};
 ghost use mathlib.Core.Bool.{true, false};
-ghost use Prim.Native.Nat.{_<_, _≤_};
+ghost use Prim.Native.Nat.{ℕ, _<_, _≤_};
 ghost use lib.Ieee.{binary64};
 ghost use lib.ListN.{length};
 ghost use Rattle.rules.specs.MarksAndFrames as Marks;
@@ -20,9 +20,9 @@ pub struct Steps {
     pub ceiling: f64,
 }
 
-// Those of the cell at a place: the model's, wherever it is.
-pub fn steps_at(model: Model, place: usize) -> Steps
-    ensures { λ r. ⌜ stepsOf r ≡ Marks.stepsAt (modelOf model) place ⌝ }
+// Those of a model of one pair, at whatever place a cell is.
+pub fn steps_of(model: Model) -> Steps
+    ensures { λ r. ⌜ ((place : ℕ) → stepsOf r ≡ Marks.stepsAt (modelOf model) place) ⌝ }
 {
     Steps {
         occupied: model.occupied,
@@ -33,14 +33,14 @@ pub fn steps_at(model: Model, place: usize) -> Steps
 }
 
 // Within the bounds; NaN stays.
-pub fn limited(s: Steps, x: f64) -> f64
-    ensures { λ r. ⌜ r ≡ Marks.limited (stepsOf s) x ⌝ }
+pub fn clamp(floor: f64, ceiling: f64, x: f64) -> f64
+    ensures { λ r. ⌜ r ≡ Marks.clamp floor ceiling x ⌝ }
 {
-    if x < s.floor {
-        return s.floor;
+    if x < floor {
+        return floor;
     }
-    if x > s.ceiling {
-        return s.ceiling;
+    if x > ceiling {
+        return ceiling;
     }
     x
 }
@@ -48,16 +48,16 @@ pub fn limited(s: Steps, x: f64) -> f64
 fn freed(s: Steps, odds: f64) -> f64
     ensures { λ r. ⌜ r ≡ Marks.freed binary64 (stepsOf s) odds ⌝ }
 {
-    limited(s, odds + s.free)
+    clamp(s.floor, s.ceiling, odds + s.free)
 }
 
 // What an occupied mark adds. A free mark of this frame is taken back first: the free step is negative, and subtracting it adds its size
 // back. On the floor the clamp ate an unknown part of it, so nothing is taken back there. The frame is one that a sweep can have (9).
-fn occupied_step(s: Steps, frame: Frame, odds: f64, stamp: u32) -> f64
+fn occupied_step(s: Steps, frame: Frame, odds: f64, stamp: Stamp) -> f64
     requires { ⌜ frame .0 ≤ Marks.highestFrame ⌝ }
-    ensures { λ r. ⌜ r ≡ Marks.occupiedStep binary64 (stepsOf s) (frame .0) (cellOf odds stamp) ⌝ }
+    ensures { λ r. ⌜ r ≡ Marks.occupiedStep binary64 (stepsOf s) (frame .0) (cellOf odds (stamp .0)) ⌝ }
 {
-    if stamp == Stamp::of(frame, false).number() {
+    if stamp.number() == Stamp::of(frame, false).number() {
         if odds <= s.floor {
             return s.occupied;
         }
@@ -69,7 +69,7 @@ fn occupied_step(s: Steps, frame: Frame, odds: f64, stamp: u32) -> f64
 fn occupy(s: Steps, odds: f64, step: f64) -> f64
     ensures { λ r. ⌜ r ≡ Marks.occupy binary64 (stepsOf s) odds step ⌝ }
 {
-    limited(s, odds + step)
+    clamp(s.floor, s.ceiling, odds + step)
 }
 
 // A cell already marked in this frame, either way, is left alone. The place is one of the lists', and the frame one that a sweep can have:
@@ -79,8 +79,8 @@ pub fn mark_free_at(odds: &mut [f64], stamps: &mut [u32], at: usize, s: Steps, f
     ensures { λ r. ⌜ MarkedAt binary64 false (stepsOf s) (frame .0) at
         (now (odds .entry)) (now (stamps .entry)) r (now (odds .exit)) (now (stamps .exit)) ⌝ }
 {
-    let stamp = stamps[at];
-    if stamp / 2 == frame.0 {
+    let stamp = Stamp::read(stamps[at]);
+    if stamp.number() / 2 == frame.0 {
         return false;
     }
     let o = odds[at];
@@ -101,9 +101,9 @@ pub fn mark_occupied_at(
     ensures { λ r. ⌜ MarkedAt binary64 true (stepsOf s) (frame .0) at
         (now (odds .entry)) (now (stamps .entry)) r (now (odds .exit)) (now (stamps .exit)) ⌝ }
 {
-    let stamp = stamps[at];
+    let stamp = Stamp::read(stamps[at]);
     let mark = Stamp::of(frame, true).number();
-    if stamp == mark {
+    if stamp.number() == mark {
         return false;
     }
     let o = odds[at];

@@ -16,7 +16,7 @@ impl Frame {
 }
 
 impl Stamp {
-    // The only way to a stamp. A higher frame's stamp would not fit; whoever marks has refused it with 9.
+    // The only way from a frame to a stamp. A higher frame's stamp would not fit; whoever marks has refused it with 9.
     pub fn of(frame: Frame, occupied: bool) -> Stamp
         requires { ⌜ frame .0 ≤ highestFrame ⌝ }
         ensures { λ r. ⌜ r .0 ≡ stampOf (frame .0) occupied ⌝ }
@@ -27,6 +27,13 @@ impl Stamp {
         } else {
             Stamp(n * 2)
         }
+    }
+
+    // A number of the lent stamps, which may hold anything at all, read as the stamp that it stands for.
+    pub fn read(number: u32) -> Stamp
+        ensures { λ r. ⌜ r .0 ≡ number ⌝ }
+    {
+        Stamp(number)
     }
 
     // The number that stands for it in the lent stamps.

@@ -13,7 +13,7 @@ enum-known-place-2 : tie.Need-enum-known-place-2
 enum-known-place-2 c = search needs
 
 returns : tie.Need-returns
-returns c = rw (ap placeOf (c .before .before .place2 .given .1)) (simp (unlike-itself (c .before .before .before .before .before .args .x), c .if1 .taken))
+returns c = λ m e. rw (ap placeOf (c .before .before .place2 .given .1)) (simp (unlike-itself (c .before .before .before .before .before .args .x), c .if1 .taken))
 
 set-log-odds-at-requires : tie.Need-set-log-odds-at-requires
 set-log-odds-at-requires c κs =
@@ -21,16 +21,16 @@ set-log-odds-at-requires c κs =
     c .before .before .before .before .before .before .pre (p .0 .0) (ap placeOf (p .1))
 
 returns-2 : tie.Need-returns-2
-returns-2 c = rw (ap placeOf (c .before .place .given .1)) refl
+returns-2 c = λ m e. rw (ap placeOf (c .before .place .given .1)) refl
 
 same-length : tie.Need-same-length
 same-length c = search needs
 
 returns-3 : tie.Need-returns-3
-returns-3 c =
+returns-3 c = λ m e.
     let number = c .before .before .before .before .if1 .left in
     rw (ap placeOf (c .before .before .before .before .before .before .place2 .given .1))
-    (simp (unlike-itself (c .before .before .before .before .before .before .before .before .before .args .x), number, c .before .before .set-log-odds-at .ensures))
+    (simp (unlike-itself (c .before .before .before .before .before .before .before .before .before .args .x), number, c .before .before .set-log-odds-at .ensures m e))
 
 pub set-checked-at-spec : {M : Type 1} → statement M
 set-checked-at-spec =

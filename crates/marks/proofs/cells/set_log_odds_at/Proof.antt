@@ -1,14 +1,11 @@
--- The limit that the place's steps give.
+-- The limit that a model's ceiling gives.
 use borrow.Author.Needs.{needs}
-use Rattle.rules.specs.MarksAndFrames.{setOdds}
+use Rattle.marks.proofs.Marking.{set-by-ceiling}
 use Rattle.marks.proofs.cells.set_log_odds_at.Statement.{statement}
 use Rattle.marks.proofs.cells.set_log_odds_at.Tie as tie
 
-steps-at-requires : tie.Need-steps-at-requires
-steps-at-requires c κs = search needs
-
-limited-requires : tie.Need-limited-requires
-limited-requires c κs = search needs
+clamp-requires : tie.Need-clamp-requires
+clamp-requires c κs = search needs
 
 mul-odds : tie.Need-mul-odds
 mul-odds c = search needs
@@ -20,10 +17,9 @@ same-length : tie.Need-same-length
 same-length c = search needs
 
 returns : tie.Need-returns
-unfolding setOdds
-returns c = simp (c .limited .ensures, c .before .steps-at .ensures)
+returns c = λ m e. rw (c .clamp .ensures) (set-by-ceiling m _ _ _ _ e)
 
 pub set-log-odds-at-spec : {M : Type 1} → statement M
 set-log-odds-at-spec =
     tie.close
-    (tie.spec steps-at-requires limited-requires mul-odds slice-write-odds same-length returns)
+    (tie.spec clamp-requires mul-odds slice-write-odds same-length returns)

@@ -8,11 +8,14 @@ use Rattle.marks.proofs.Marking.{occupied-left, occupied-moved}
 use Rattle.marks.proofs.marks.mark_occupied_at.Statement.{statement}
 use Rattle.marks.proofs.marks.mark_occupied_at.Tie as tie
 
-mul-stamp : tie.Need-mul-stamp
-mul-stamp c = search needs
+mul-read : tie.Need-mul-read
+mul-read c = search needs
 
-slice-read-stamp : tie.Need-slice-read-stamp
-slice-read-stamp c = search needs
+slice-read-read : tie.Need-slice-read-read
+slice-read-read c = search needs
+
+read-requires : tie.Need-read-requires
+read-requires c κs = search needs
 
 of-requires : tie.Need-of-requires
 of-requires c κs = search needs
@@ -20,10 +23,15 @@ of-requires c κs = search needs
 number-requires : tie.Need-number-requires
 number-requires c κs = search needs
 
+number-requires-2 : tie.Need-number-requires-2
+number-requires-2 c κs = search needs
+
 returns : tie.Need-returns
 returns c =
-    let a = c .before .before .before .before .before .before .args in
-    occupied-left binary64 (stepsOf (a .s)) (a .frame .0) (a .at) (now (a .odds)) (now (a .stamps)) (c .if1 .taken) (c .before .number .ensures ∙ c .before .before .of .ensures)
+    let a = c .before .before .before .before .before .before .before .before .args in
+    let stamp = c .before .number2 .ensures ∙ c .before .before .before .before .read .ensures in
+    occupied-left binary64 (stepsOf (a .s)) (a .frame .0) (a .at) (now (a .odds)) (now (a .stamps)) (rw stamp at (c .if1 .taken))
+    (c .before .before .number .ensures ∙ c .before .before .before .of .ensures)
 
 mul-o : tie.Need-mul-o
 mul-o c = search needs
@@ -57,19 +65,23 @@ same-length-2 c = search needs
 
 returns-2 : tie.Need-returns-2
 returns-2 c =
-    let a = c .before .before .before .before .before .before .before .before .before .args in
-    let d = c .before .before .before .before in
+    let a = c .before .before .before .before .before .before .before .before .before .before .before .args in
+    let d = c .before .before .before .before .before in
+    let read = c .before .before .before .before .before .before .before .read .ensures in
+    let stamp = c .before .before .before .before .number2 .ensures ∙ read in
     occupied-moved binary64 (stepsOf (a .s)) (a .frame .0) (a .at) (now (a .odds)) (now (a .stamps))
-    (c .before .before .before .if1 .left) (c .before .occupied-step .ensures) (c .occupy .ensures) (d .number .ensures ∙ d .before .of .ensures)
+    (rw stamp at (c .before .before .before .if1 .left)) (rw read at (c .before .occupied-step .ensures)) (c .occupy .ensures) (d .number .ensures ∙ d .before .of .ensures)
 
 pub mark-occupied-at-spec : {M : Type 1} → statement M
 mark-occupied-at-spec =
     tie.close
     (tie.spec
-    mul-stamp
-    slice-read-stamp
+    mul-read
+    slice-read-read
+    read-requires
     of-requires
     number-requires
+    number-requires-2
     returns
     mul-o
     slice-read-o

@@ -4,6 +4,7 @@ use borrow.Author.Needs.{needs}
 use Rattle.rules.specs.RefusalNumbers.Entries.{setLogOddsEntry}
 use Rattle.laws.specs.Checks.{passed}
 use Rattle.laws.specs.Places.{place-lt}
+use Rattle.types.specs.Models.{modelOf}
 use Rattle.checks.specs.Checking.{checkOf}
 use Rattle.places.specs.Places.{placeOf}
 use Rattle.grid_map.proofs.map2.GridMap2.set_log_odds.Statement.{statement}
@@ -46,8 +47,9 @@ same-length c = search needs
 returns-3 : tie.Need-returns-3
 unfolding setLogOddsEntry
 returns-3 c =
+    let m = c .before .before .before .before .before .before .before .before .before .before .before .before .args .self in
     let fine = sym (c .before .before .before .before .before .before .before .before .before .before .check .ensures) ∙ ap checkOf (c .before .before .before .before .before .before .before .before .enum-told .given .1) in
-    rw fine (simp (sym (c .before .before .before .before .before .before .before .translate-to-index2 .ensures) ∙ ap placeOf (c .before .before .before .before .before .i .given .1), c .before .before .set-log-odds-at .ensures))
+    rw fine (simp (sym (c .before .before .before .before .before .before .before .translate-to-index2 .ensures) ∙ ap placeOf (c .before .before .before .before .before .i .given .1), c .before .before .set-log-odds-at .ensures (modelOf (m .model)) refl))
 
 pub set-log-odds-spec : {M : Type 1} → statement M
 set-log-odds-spec =

@@ -4,6 +4,7 @@ use borrow.Author.Needs.{needs}
 use Rattle.rules.specs.RefusalNumbers.Entries.{setLogOddsCheckedEntry}
 use Rattle.laws.specs.Checks.{passed}
 use Rattle.laws.specs.Places.{place-lt}
+use Rattle.types.specs.Models.{modelOf}
 use Rattle.checks.specs.Checking.{checkOf}
 use Rattle.grid_map.proofs.map2.GridMap2.set_log_odds_checked.Statement.{statement}
 use Rattle.grid_map.proofs.map2.GridMap2.set_log_odds_checked.Tie as tie
@@ -33,8 +34,9 @@ same-length c = search needs
 returns-2 : tie.Need-returns-2
 unfolding setLogOddsCheckedEntry
 returns-2 c =
+    let m = c .before .before .before .before .before .before .before .before .before .args .self in
     let fine = sym (c .before .before .before .before .before .before .before .check .ensures) ∙ ap checkOf (c .before .before .before .before .before .enum-told .given .1) in
-    rw fine (simp (c .before .before .set-checked-at .ensures, c .before .before .before .before .translate-to-index2 .ensures))
+    rw fine (simp (c .before .before .set-checked-at .ensures (modelOf (m .model)) refl, c .before .before .before .before .translate-to-index2 .ensures))
 
 pub set-log-odds-checked-spec : {M : Type 1} → statement M
 set-log-odds-checked-spec =

@@ -4,8 +4,6 @@ use borrow.Author.Needs.{needs}
 use Rattle.rules.specs.RefusalNumbers.Entries.{setLogOddsEntry}
 use Rattle.laws.specs.Checks.{passed}
 use Rattle.laws.specs.Places.{place-lt}
-use Rattle.laws.specs.Bands.{set-by-ceiling}
-use Rattle.rules.specs.TheGridAndItsBounds.{Model}
 use Rattle.types.specs.Models.{bandsOf}
 use Rattle.checks.specs.Checking.{checkOf}
 use Rattle.places.specs.Places.{placeOf}
@@ -30,11 +28,8 @@ enum-known-r-2 c = search needs
 enum-known-i : tie.Need-enum-known-i
 enum-known-i c = search needs
 
-lowest-requires : tie.Need-lowest-requires
-lowest-requires c κs = search needs
-
 set-log-odds-at-requires : tie.Need-set-log-odds-at-requires
-set-log-odds-at-requires c κs = rw (passed _ _ _ _ (sym (c .before .before .before .before .before .before .before .before .check .ensures) ∙ ap checkOf (c .before .before .before .before .before .before .enum-told .given .1)) .odds-count tt) (place-lt _ _ _ refl (sym (c .before .before .before .before .before .translate-to-index3 .ensures) ∙ ap placeOf (c .before .before .before .i .given .1)))
+set-log-odds-at-requires c κs = rw (passed _ _ _ _ (sym (c .before .before .before .before .before .before .before .check .ensures) ∙ ap checkOf (c .before .before .before .before .before .enum-told .given .1)) .odds-count tt) (place-lt _ _ _ refl (sym (c .before .before .before .before .translate-to-index3 .ensures) ∙ ap placeOf (c .before .before .i .given .1)))
 
 returns : tie.Need-returns
 unfolding setLogOddsEntry
@@ -52,10 +47,9 @@ same-length c = search needs
 returns-3 : tie.Need-returns-3
 unfolding setLogOddsEntry
 returns-3 c =
-    let fine = sym (c .before .before .before .before .before .before .before .before .before .before .before .check .ensures) ∙ ap checkOf (c .before .before .before .before .before .before .before .before .before .enum-told .given .1) in
-    let m = c .before .before .before .before .before .before .before .before .before .before .before .before .before .args .self in
-    let set = c .before .before .set-log-odds-at .ensures ∙ set-by-ceiling _ (bandsOf (m .extents) (m .bands)) (ap (λ (m : Model). m .ceiling) (c .before .before .before .lowest .ensures)) _ _ _ in
-    rw fine (simp (sym (c .before .before .before .before .before .before .before .before .translate-to-index3 .ensures) ∙ ap placeOf (c .before .before .before .before .before .before .i .given .1), set))
+    let m = c .before .before .before .before .before .before .before .before .before .before .before .before .args .self in
+    let fine = sym (c .before .before .before .before .before .before .before .before .before .before .check .ensures) ∙ ap checkOf (c .before .before .before .before .before .before .before .before .enum-told .given .1) in
+    rw fine (simp (sym (c .before .before .before .before .before .before .before .translate-to-index3 .ensures) ∙ ap placeOf (c .before .before .before .before .before .i .given .1), c .before .before .set-log-odds-at .ensures (bandsOf (m .extents) (m .bands)) refl))
 
 pub set-log-odds-spec : {M : Type 1} → statement M
 set-log-odds-spec =
@@ -67,7 +61,6 @@ set-log-odds-spec =
     translate-to-index3-requires
     enum-known-r-2
     enum-known-i
-    lowest-requires
     set-log-odds-at-requires
     returns
     returns-2

@@ -1,15 +1,10 @@
 -- The check, and then the cell; a place that was found is below the number of cells, and so in the list.
 use mathlib.Core.Path.{refl, sym, ap, _∙_}
 use borrow.Author.Needs.{needs}
-use Rattle.rules.specs.RefusalNumbers.Entries.{setLogOddsCheckedEntry, checkedAnswer}
+use Rattle.rules.specs.RefusalNumbers.Entries.{setLogOddsCheckedEntry}
 use Rattle.laws.specs.Checks.{passed}
 use Rattle.laws.specs.Places.{place-lt}
-use Rattle.laws.specs.Bands.{checked-by-ceiling}
-use Rattle.rules.specs.TheGridAndItsBounds.{Model}
 use Rattle.types.specs.Models.{bandsOf}
-use Rattle.types.specs.Points.{extents3, cell3}
-use Rattle.rules.specs.Coordinates.{flatIndex}
-use denote.Ref.{now}
 use Rattle.checks.specs.Checking.{checkOf}
 use Rattle.grid_map.proofs.map3.GridMap3.set_log_odds_checked.Statement.{statement}
 use Rattle.grid_map.proofs.map3.GridMap3.set_log_odds_checked.Tie as tie
@@ -26,11 +21,8 @@ enum-told c = search needs
 translate-to-index3-requires : tie.Need-translate-to-index3-requires
 translate-to-index3-requires c κs = passed _ _ _ _ (sym (c .before .before .check .ensures) ∙ ap checkOf (c .enum-told .given .1)) .extents
 
-lowest-requires : tie.Need-lowest-requires
-lowest-requires c κs = search needs
-
 set-checked-at-requires : tie.Need-set-checked-at-requires
-set-checked-at-requires c κs = λ i h. rw (passed _ _ _ _ (sym (c .before .before .before .before .before .check .ensures) ∙ ap checkOf (c .before .before .before .enum-told .given .1)) .odds-count tt) (place-lt _ _ i refl (sym (c .before .before .translate-to-index3 .ensures) ∙ h))
+set-checked-at-requires c κs = λ i h. rw (passed _ _ _ _ (sym (c .before .before .before .before .check .ensures) ∙ ap checkOf (c .before .before .enum-told .given .1)) .odds-count tt) (place-lt _ _ i refl (sym (c .before .translate-to-index3 .ensures) ∙ h))
 
 returns : tie.Need-returns
 unfolding setLogOddsCheckedEntry
@@ -42,14 +34,9 @@ same-length c = search needs
 returns-2 : tie.Need-returns-2
 unfolding setLogOddsCheckedEntry
 returns-2 c =
-    let fine = sym (c .before .before .before .before .before .before .before .before .check .ensures) ∙ ap checkOf (c .before .before .before .before .before .before .enum-told .given .1) in
-    let a = c .before .before .before .before .before .before .before .before .before .before .args in
-    let m = a .self in
-    rw fine
-    (c .before .before .set-checked-at .ensures
-    ∙ ap (checkedAnswer _ (a .value) (now (a .odds))) (c .before .before .before .before .before .translate-to-index3 .ensures)
-    ∙ checked-by-ceiling _ (bandsOf (m .extents) (m .bands)) (ap (λ (k : Model). k .ceiling) (c .before .before .before .lowest .ensures)) (a .value) (now (a .odds))
-    (flatIndex (extents3 (m .extents)) (cell3 (a .cell))))
+    let m = c .before .before .before .before .before .before .before .before .before .args .self in
+    let fine = sym (c .before .before .before .before .before .before .before .check .ensures) ∙ ap checkOf (c .before .before .before .before .before .enum-told .given .1) in
+    rw fine (simp (c .before .before .set-checked-at .ensures (bandsOf (m .extents) (m .bands)) refl, c .before .before .before .before .translate-to-index3 .ensures))
 
 pub set-log-odds-checked-spec : {M : Type 1} → statement M
 set-log-odds-checked-spec =
@@ -59,7 +46,6 @@ set-log-odds-checked-spec =
     enum-known-tried
     enum-told
     translate-to-index3-requires
-    lowest-requires
     set-checked-at-requires
     returns
     same-length

@@ -2,12 +2,12 @@
 use mathlib.Core.Path.{refl}
 use Rattle.rules.specs.TheGridAndItsBounds.{floor, pairAt}
 use Rattle.rules.specs.MarksAndFrames.{stepsAt}
-use Rattle.marks.proofs.marks.steps_at.Statement.{statement}
-use Rattle.marks.proofs.marks.steps_at.Tie as tie
+use Rattle.marks.proofs.marks.steps_of.Statement.{statement}
+use Rattle.marks.proofs.marks.steps_of.Tie as tie
 
 returns : tie.Need-returns
 unfolding stepsAt pairAt floor
-returns c = refl
+returns c = λ place. refl
 
-pub steps-at-spec : {M : Type 1} → statement M
-steps-at-spec = tie.close (tie.spec returns)
+pub steps-of-spec : {M : Type 1} → statement M
+steps-of-spec = tie.close (tie.spec returns)
