@@ -1,19 +1,12 @@
 -- A NaN has many patterns, which read as NaN, and one that is written. Assumes nothing.
 use Prim.Native.Nat.{ℕ, _%_, _≤_, _<_}
-use mathlib.Core.Path.{_≡_, refl, sym, ap, _∙_, subst}
-use mathlib.Core.Bool.{Bool, true, false, not}
+use mathlib.Core.Path.{_≡_, refl, sym, _∙_}
+use mathlib.Core.Bool.{true, not}
 use native.Mathlib.Omega.{arith}
 use lib.Dec.{T}
-use lib.Ieee.{Float, nan, inf, fin, binary64, ne, div, isNan, ofBits, nanBits}
+use lib.Ieee.{Float, nan, inf, fin, binary64, div, isNan, ofBits, nanBits}
 use lib.Ieee.Bits.{nanBits-above, nanBits-is}
-use lib.Ieee.Compare.{nan-differs}
 use borrow.Author.Tests.{lt-ltb, le-ltb}
-
-pub no-nan : (x : Float) → ne x x ≡ false → T (not (isNan x))
-unfolding isNan
-no-nan nan e = let z : _≡_ {A = ℕ} 0 1 = cc (nan-differs) in absurd (omega arith)
-no-nan (inf s) e = tt
-no-nan (fin s m e') e = tt
 
 is-nan : (x : Float) → isNan x ≡ true → x ≡ nan
 unfolding isNan

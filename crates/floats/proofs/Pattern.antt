@@ -11,11 +11,11 @@ use lib.Bits.{bitAnd, and-mask, mask-lt}
 use lib.Pow.{pow-pos, pow-mono, shl-lt, field}
 use lib.Ieee.{Float, nan, inf, fin, binary64, up, down, odd, ofFields, ofBits, toBits, fits, isNan, eq, ne}
 use lib.Ieee.Bits.{ofBits-toBits}
-use lib.Ieee.Compare.{nan-differs}
 use lib.Ieee.Exact.{HasValue, odd-sign}
 use lib.Ieee.Fits.{down-pos}
 use lib.Ieee.Nearest.{div-same}
 use borrow.Author.Tests.{eqb-true, lt-leb, le-leb}
+use Rattle.laws.specs.Floats.Nans.{no-nan}
 use Rattle.laws.specs.Floats.Sizes.{unsigned}
 use Rattle.floats.specs.Whole.{wholePart}
 use Rattle.floats.proofs.WholePart.{nothing-left, at-least}
@@ -66,12 +66,6 @@ by-fields x h =
 pub equals-itself : (x : Float) → eq x x ≡ true → ne x x ≡ false
 unfolding ne
 equals-itself x e = ap not e
-
-pub no-nan : (x : Float) → ne x x ≡ false → T (not (isNan x))
-unfolding isNan
-no-nan nan e = let z : _≡_ {A = ℕ} 0 1 = cc (nan-differs) in absurd (omega arith)
-no-nan (inf s) e = tt
-no-nan (fin s m e') e = tt
 
 -- `to` cuts a float to a whole number, and `kept` says what it keeps of a whole part with its sign
 module _ {A : Type 0} (to : Float → A) (kept : Bool → ℕ → A)

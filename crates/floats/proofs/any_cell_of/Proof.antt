@@ -7,7 +7,8 @@ use lib.Ieee.{Float, toSigned}
 use lib.Ieee.Compare.{differs-from-itself}
 use Rattle.rules.specs.Coordinates.{truncated}
 use Rattle.floats.proofs.WholePart.{below}
-use Rattle.floats.proofs.Pattern.{exponentOf, fractionOf, fraction-lt, plus, minus, no-nan}
+use Rattle.laws.specs.Floats.Nans.{no-nan}
+use Rattle.floats.proofs.Pattern.{exponentOf, fractionOf, fraction-lt, plus, minus}
 use Rattle.floats.proofs.Ranges.{cell-is, cell-beyond, cellKept, cell-plus, cell-minus, negated}
 use Rattle.floats.proofs.any_cell_of.Statement.{statement}
 use Rattle.floats.proofs.any_cell_of.Tie as tie

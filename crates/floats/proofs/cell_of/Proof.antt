@@ -7,7 +7,8 @@ use borrow.Author.Needs.{needs}
 use lib.Ieee.{Float}
 use Rattle.floats.specs.Whole.{wholePart}
 use Rattle.floats.proofs.WholePart.{below}
-use Rattle.floats.proofs.Pattern.{bitsOf, fractionOf, fraction-lt, no-nan, equals-itself, low-sign, low-exponent}
+use Rattle.laws.specs.Floats.Nans.{no-nan}
+use Rattle.floats.proofs.Pattern.{bitsOf, fractionOf, fraction-lt, equals-itself, low-sign, low-exponent}
 use Rattle.floats.proofs.Ranges.{cell-is, cellKept, cell-plus}
 use Rattle.floats.proofs.cell_of.Statement.{statement}
 use Rattle.floats.proofs.cell_of.Tie as tie

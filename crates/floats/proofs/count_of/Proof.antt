@@ -5,7 +5,8 @@ use native.Mathlib.Omega.{arith}
 use lib.Ieee.{toUnsigned}
 use lib.Ieee.Compare.{differs-from-itself}
 use Rattle.floats.proofs.WholePart.{below}
-use Rattle.floats.proofs.Pattern.{exponentOf, fractionOf, fraction-lt, plus, minus, no-nan}
+use Rattle.laws.specs.Floats.Nans.{no-nan}
+use Rattle.floats.proofs.Pattern.{exponentOf, fractionOf, fraction-lt, plus, minus}
 use Rattle.floats.proofs.Ranges.{count-is, count-beyond, count-plus}
 use Rattle.floats.proofs.count_of.Statement.{statement}
 use Rattle.floats.proofs.count_of.Tie as tie

@@ -7,7 +7,8 @@ use borrow.Author.Needs.{needs}
 use lib.Ieee.{binary64}
 use Rattle.rules.specs.Floats.{numberF}
 use Rattle.floats.proofs.WholePart.{below}
-use Rattle.floats.proofs.Pattern.{exponentOf, fractionOf, fraction-lt, below-4096, exponent-below, no-nan, no-sign}
+use Rattle.laws.specs.Floats.Nans.{no-nan}
+use Rattle.floats.proofs.Pattern.{exponentOf, fractionOf, fraction-lt, below-4096, exponent-below, no-sign}
 use Rattle.floats.proofs.Ranges.{count-is, count-plus}
 use Rattle.floats.proofs.Following.{followed}
 use Rattle.floats.proofs.followed_cell.Statement.{statement}

@@ -1,6 +1,6 @@
 -- NaN alone is unlike itself: how code tries a number. Assumes nothing.
 use mathlib.Core.Path.{_≡_, refl, sym, ap, _∙_}
-use mathlib.Core.Bool.{Bool, true, false, true≢false}
+use mathlib.Core.Bool.{Bool, true, false, not, true≢false}
 use lib.Dec.{T}
 use lib.Ieee.{Float, nan, inf, fin, ne, isNan}
 use lib.Ieee.Compare.{differs-from-itself, nan-differs}
@@ -21,3 +21,7 @@ unlike-itself x = go (ne x x) refl
     go : (b : Bool) → ne x x ≡ b → isNan x ≡ b
     go true e = nan-of x (rw e tt)
     go false e = number-of x e
+
+-- the same as a machine's operation on a number's bits asks for it
+pub no-nan : (x : Float) → ne x x ≡ false → T (not (isNan x))
+no-nan x e = rw (unlike-itself x, e) tt

@@ -3,7 +3,7 @@ use mathlib.Core.Path.{refl}
 use lib.Ieee.{toBits}
 use lib.Ieee.Compare.{differs-from-itself}
 use borrow.Author.Needs.{needs}
-use Rattle.fields.proofs.NaNs.{no-nan}
+use Rattle.laws.specs.Floats.Nans.{no-nan}
 use Rattle.fields.proofs.patterns.bits_of.Statement.{statement}
 use Rattle.fields.proofs.patterns.bits_of.Tie as tie
 

@@ -1,5 +1,5 @@
 -- A float that equals itself is no NaN, and has bits.
-use Rattle.replay.proofs.Bits.{no-nan}
+use Rattle.laws.specs.Floats.Nans.{no-nan}
 use borrow.Author.Needs.{needs}
 use Rattle.replay.proofs.expecting.same.Statement.{statement}
 use Rattle.replay.proofs.expecting.same.Tie as tie
