@@ -23,7 +23,7 @@ use types::SampleRead2;
 use types::SetAnswer;
 
 // The point whose numbers start here. They are the list's.
-fn point_at2(points: &[f64], at: usize) -> Point2
+fn listed_point2(points: &[f64], at: usize) -> Point2
     requires { ⌜ at + 2 ≤ length (now points) ⌝ }
     ensures { λ r. ⌜ point2 r ≡ take 2 (drop at (now (points .entry))) ⌝ }
 {
@@ -66,7 +66,7 @@ fn sample_points2(
 {
     let mut place: usize = 0;
     while place < found.len() {
-        let point = point_at2(points, 2 * place);
+        let point = listed_point2(points, 2 * place);
         let read = sample_log_odds2(extents, odds, point);
         let mark = put_sample2(samples, 3 * place, read);
         found[place] = mark;

@@ -23,7 +23,7 @@ use types::SampleRead3;
 use types::SetAnswer;
 
 // The point whose numbers start here. They are the list's.
-fn point_at3(points: &[f64], at: usize) -> Point3
+fn listed_point3(points: &[f64], at: usize) -> Point3
     requires { ⌜ at + 3 ≤ length (now points) ⌝ }
     ensures { λ r. ⌜ point3 r ≡ take 3 (drop at (now (points .entry))) ⌝ }
 {
@@ -68,7 +68,7 @@ fn sample_points3(
 {
     let mut place: usize = 0;
     while place < found.len() {
-        let point = point_at3(points, 3 * place);
+        let point = listed_point3(points, 3 * place);
         let read = sample_log_odds3(extents, odds, point);
         let mark = put_sample3(samples, 4 * place, read);
         found[place] = mark;

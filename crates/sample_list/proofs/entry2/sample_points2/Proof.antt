@@ -21,16 +21,16 @@ abbrev μ-loop : tie.MeasureT-loop
 loop-holds : tie.Need-loop-holds Inv-loop μ-loop
 loop-holds c = (none-yet _ _ _ _ _ _, omega arith)
 
-mul-point-at2 : tie.Need-mul-point-at2 Inv-loop μ-loop
-mul-point-at2 c =
+mul-listed-point2 : tie.Need-mul-listed-point2 Inv-loop μ-loop
+mul-listed-point2 c =
     let kept = c .before .loop .inv .0 .marks-kept in
     let more = c .loop-test .taken in
     let points = c .before .before .before .before .before .before .pre .1 .1 .0 in
     let good = c .before .before .before .before .before .before .good in
     omega arith
 
-point-at2-requires : tie.Need-point-at2-requires Inv-loop μ-loop
-point-at2-requires c κs =
+listed-point2-requires : tie.Need-listed-point2-requires Inv-loop μ-loop
+listed-point2-requires c κs =
     let kept = c .before .loop .inv .0 .marks-kept in
     let more = c .loop-test .taken in
     let points = c .before .before .before .before .before .before .pre .1 .1 .0 in
@@ -83,7 +83,7 @@ loop-again c =
     let taken = c .before .before .before .before .before .before .loop-test .taken in
     omega arith in
     let again = one-more _ _ _ _ _ _ _ _ _ u more (start .pre .1 .1 .0) (start .pre .1 .1 .1) in
-    let point = c .before .before .before .before .before .point-at2 .ensures in
+    let point = c .before .before .before .before .before .listed-point2 .ensures in
     let read = c .before .before .before .before .sample-log-odds2 .ensures ∙ ap (sample binary64 (extents2 (start .args .extents)) (now (start .args .odds))) point in
     rw (c .before .before .put-sample2 .ensures .0, c .before .before .put-sample2 .ensures .1, read) (again, omega arith)
 
@@ -111,8 +111,8 @@ sample-points2-spec =
     Inv-loop
     μ-loop
     loop-holds
-    mul-point-at2
-    point-at2-requires
+    mul-listed-point2
+    listed-point2-requires
     sample-log-odds2-requires
     mul-put-sample2
     put-sample2-requires

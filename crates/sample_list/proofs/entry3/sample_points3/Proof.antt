@@ -21,16 +21,16 @@ abbrev μ-loop : tie.MeasureT-loop
 loop-holds : tie.Need-loop-holds Inv-loop μ-loop
 loop-holds c = (none-yet _ _ _ _ _ _, omega arith)
 
-mul-point-at3 : tie.Need-mul-point-at3 Inv-loop μ-loop
-mul-point-at3 c =
+mul-listed-point3 : tie.Need-mul-listed-point3 Inv-loop μ-loop
+mul-listed-point3 c =
     let kept = c .before .loop .inv .0 .marks-kept in
     let more = c .loop-test .taken in
     let points = c .before .before .before .before .before .before .pre .1 .1 .0 in
     let good = c .before .before .before .before .before .before .good in
     omega arith
 
-point-at3-requires : tie.Need-point-at3-requires Inv-loop μ-loop
-point-at3-requires c κs =
+listed-point3-requires : tie.Need-listed-point3-requires Inv-loop μ-loop
+listed-point3-requires c κs =
     let kept = c .before .loop .inv .0 .marks-kept in
     let more = c .loop-test .taken in
     let points = c .before .before .before .before .before .before .pre .1 .1 .0 in
@@ -83,7 +83,7 @@ loop-again c =
     let taken = c .before .before .before .before .before .before .loop-test .taken in
     omega arith in
     let again = one-more _ _ _ _ _ _ _ _ _ u more (start .pre .1 .1 .0) (start .pre .1 .1 .1) in
-    let point = c .before .before .before .before .before .point-at3 .ensures in
+    let point = c .before .before .before .before .before .listed-point3 .ensures in
     let read = c .before .before .before .before .sample-log-odds3 .ensures ∙ ap (sample binary64 (extents3 (start .args .extents)) (now (start .args .odds))) point in
     rw (c .before .before .put-sample3 .ensures .0, c .before .before .put-sample3 .ensures .1, read) (again, omega arith)
 
@@ -111,8 +111,8 @@ sample-points3-spec =
     Inv-loop
     μ-loop
     loop-holds
-    mul-point-at3
-    point-at3-requires
+    mul-listed-point3
+    listed-point3-requires
     sample-log-odds3-requires
     mul-put-sample3
     put-sample3-requires

@@ -8,8 +8,8 @@ use lib.ListN.{length}
 use lib.Seq.{drop-cons}
 use borrow.Author.Needs.{needs}
 use denote.Ref.{now}
-use Rattle.sample_list.proofs.entry2.point_at2.Statement.{statement}
-use Rattle.sample_list.proofs.entry2.point_at2.Tie as tie
+use Rattle.sample_list.proofs.entry2.listed_point2.Statement.{statement}
+use Rattle.sample_list.proofs.entry2.listed_point2.Tie as tie
 
 mul-t3 : tie.Need-mul-t3
 mul-t3 c = search needs
@@ -34,6 +34,6 @@ returns c =
     let second : suc at < length xs = omega arith in
     rw (add-one, drop-cons xs at nan first, drop-cons xs (suc at) nan second) refl
 
-pub point-at2-spec : {M : Type 1} → statement M
-point-at2-spec =
+pub listed-point2-spec : {M : Type 1} → statement M
+listed-point2-spec =
     tie.close (tie.spec mul-t3 shared-slice-read-t5 add-t6 mul-t7 shared-slice-read-t9 returns)

@@ -8,8 +8,8 @@ use lib.ListN.{length}
 use lib.Seq.{drop-cons}
 use borrow.Author.Needs.{needs}
 use denote.Ref.{now}
-use Rattle.sample_list.proofs.entry3.point_at3.Statement.{statement}
-use Rattle.sample_list.proofs.entry3.point_at3.Tie as tie
+use Rattle.sample_list.proofs.entry3.listed_point3.Statement.{statement}
+use Rattle.sample_list.proofs.entry3.listed_point3.Tie as tie
 
 mul-t3 : tie.Need-mul-t3
 mul-t3 c = search needs
@@ -44,8 +44,8 @@ returns c =
     let third : suc (suc at) < length xs = omega arith in
     rw (add-one, add-two, drop-cons xs at nan first, drop-cons xs (suc at) nan second, drop-cons xs (suc (suc at)) nan third) refl
 
-pub point-at3-spec : {M : Type 1} → statement M
-point-at3-spec =
+pub listed-point3-spec : {M : Type 1} → statement M
+listed-point3-spec =
     tie.close
     (tie.spec
     mul-t3
