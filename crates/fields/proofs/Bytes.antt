@@ -5,11 +5,11 @@ use mathlib.Core.List.{List, [], _∷_, _++_}
 use mathlib.Core.Path.{_≡_, refl, sym, ap, _∙_}
 use native.Mathlib.Nat.{mul-assoc, pow-zero, pow-succ', mod-lt, mod-add-div}
 use native.Mathlib.Omega.{arith}
-use lib.Dec.{eqb, leb}
+use lib.Dec.{eqb}
 use lib.ListN.{length, getD, drop, length-drop}
 use lib.Seq.{drop-drop, getD-drop}
 use borrow.Author.Tests.{leb-true, le-leb, lt-leb, eq-eqb, ne-eqb}
-use Rattle.rules.specs.MapRecord.{littleEndian, fromLittleEndian, fieldHere}
+use Rattle.rules.specs.Fields.{littleEndian, fromLittleEndian, fieldHere}
 
 -- ---- reading
 from-none : (k : ℕ) → fromLittleEndian k [] ≡ 0

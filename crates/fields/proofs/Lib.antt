@@ -1,3 +1,4 @@
 pub mod Bytes
+pub mod Floats
 pub mod NaNs
 pub mod Stores

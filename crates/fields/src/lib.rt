@@ -1,9 +1,54 @@
-// The bytes of a map record: numbers, floats and the heads of fields at a place in lent bytes, read and written, little-endian. Which fields a
-// record has, and what they hold, stands in `record`.
+// The house's fields: numbers, floats and the heads of fields at a place in lent bytes, read and written, little-endian; and the layout of the map record
+// and of the sweep file. What a record or a file holds stands in the crates that read and write it.
+mod layout;
 mod patterns;
 mod reading;
 mod writing;
 
+pub use layout::AXES_LENGTH;
+pub use layout::AXES_SIZE;
+pub use layout::AXES_TAG;
+pub use layout::BEAM_SIZE2;
+pub use layout::BEAM_SIZE3;
+pub use layout::BEAM_TAG;
+pub use layout::BEAMS_AT;
+pub use layout::COUNT_LENGTH;
+pub use layout::COUNT_SIZE;
+pub use layout::COUNT_TAG;
+pub use layout::END_LENGTH;
+pub use layout::END_SIZE;
+pub use layout::END_TAG;
+pub use layout::EXTENTS_LENGTH2;
+pub use layout::EXTENTS_LENGTH3;
+pub use layout::EXTENTS_SIZE2;
+pub use layout::EXTENTS_SIZE3;
+pub use layout::EXTENTS_TAG;
+pub use layout::FLOAT_SIZE;
+pub use layout::FRAME_AT2;
+pub use layout::FRAME_AT3;
+pub use layout::FRAME_LENGTH;
+pub use layout::FRAME_SIZE;
+pub use layout::FRAME_TAG;
+pub use layout::HEAD_AND_HIT;
+pub use layout::HEAD_SIZE;
+pub use layout::HIT_LENGTH;
+pub use layout::MODEL_AT2;
+pub use layout::MODEL_AT3;
+pub use layout::MODEL_LENGTH;
+pub use layout::MODEL_SIZE;
+pub use layout::MODEL_TAG;
+pub use layout::MOST_BEAMS;
+pub use layout::POINTS_LENGTH;
+pub use layout::ROW_TAG;
+pub use layout::ROWS_AT2;
+pub use layout::ROWS_AT3;
+pub use layout::SHORT_SIZE;
+pub use layout::STATION_AT;
+pub use layout::STATION_LENGTH;
+pub use layout::STATION_NUMBER_AT;
+pub use layout::STATION_SIZE;
+pub use layout::STATION_TAG;
+pub use layout::WORD_SIZE;
 pub use patterns::bits_of;
 pub use reading::f64_at;
 pub use reading::field_here;
@@ -11,5 +56,6 @@ pub use reading::u16_at;
 pub use reading::u32_at;
 pub use writing::put_f64;
 pub use writing::put_field;
+pub use writing::put_floats;
 pub use writing::put_u16;
 pub use writing::put_u32;

@@ -4,7 +4,9 @@ ghost use mathlib.Core.Path.{_≡_};
 ghost use Prim.Native.Nat.{_+_, _≤_};
 ghost use lib.Ieee.{binary64, ofBits};
 ghost use lib.ListN.{length, drop};
-ghost use Rattle.rules.specs.MapRecord.{fromLittleEndian, fieldHere};
+ghost use Rattle.rules.specs.Fields.{fromLittleEndian, fieldHere};
+use crate::layout::HEAD_SIZE;
+use crate::layout::TAG_SIZE;
 use crate::patterns::float_of;
 
 fn wide(byte: u8) -> u16
@@ -59,14 +61,14 @@ pub fn field_here(bytes: &[u8], at: usize, tag: u8, size: usize) -> bool
         return false;
     }
     let left = bytes.len() - at;
-    if left < 3 {
+    if left < HEAD_SIZE {
         return false;
     }
-    if left - 3 < size {
+    if left - HEAD_SIZE < size {
         return false;
     }
     if bytes[at] == tag {
-        return u16_at(bytes, at + 1) as usize == size;
+        return u16_at(bytes, at + TAG_SIZE) as usize == size;
     }
     false
 }

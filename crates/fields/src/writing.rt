@@ -2,11 +2,13 @@
 // is room (refusal 11).
 ghost use mathlib.Core.Path.{_≡_};
 ghost use mathlib.Core.List.{_∷_};
-ghost use Prim.Native.Nat.{_+_, _≤_};
+ghost use Prim.Native.Nat.{_+_, _*_, _≤_, _<_};
 ghost use lib.Ieee.{binary64, toBits};
-ghost use lib.ListN.{length};
+ghost use lib.ListN.{length, take, drop};
 ghost use lib.Seq.{sets};
-ghost use Rattle.rules.specs.MapRecord.{littleEndian};
+ghost use Rattle.rules.specs.Fields.{littleEndian, shortSize, floatSize, floatBytes, headSize};
+use crate::layout::FLOAT_SIZE;
+use crate::layout::TAG_SIZE;
 use crate::patterns::bits_of;
 
 // There is room for the two bytes.
@@ -44,11 +46,27 @@ pub fn put_f64(out: &mut [u8], at: usize, x: f64)
     put_u64(out, at, bits_of(x));
 }
 
-// The tag and the length of a field; its bytes come after them. There is room for the three bytes.
-pub fn put_field(out: &mut [u8], at: usize, tag: u8, size: u16)
-    requires { ⌜ at + 3 ≤ length (now out) ⌝ }
-    ensures { λ _. ⌜ now (out .exit) ≡ sets (now (out .entry)) at (tag ∷ littleEndian 2 size) ⌝ }
+// Floats of a list, from a place on. They are the list's, and there is room for them.
+pub fn put_floats(out: &mut [u8], at: usize, numbers: &[f64], from: usize, width: usize)
+    requires { ⌜ at + floatSize * width ≤ length (now out) ⌝ ∗ ⌜ from + width ≤ length (now numbers) ⌝ }
+    ensures { λ _. ⌜ now (out .exit) ≡ sets (now (out .entry)) at (floatBytes (take width (drop from (now (numbers .entry))))) ⌝ }
+{
+    let mut here = at;
+    let mut place = from;
+    let mut left = width;
+    while left > 0 {
+        put_f64(out, here, numbers[place]);
+        here += FLOAT_SIZE;
+        place += 1;
+        left -= 1;
+    }
+}
+
+// The tag and the length of a field; its bytes come after them. There is room for them, and the length has room in two bytes.
+pub fn put_field(out: &mut [u8], at: usize, tag: u8, size: usize)
+    requires { ⌜ at + headSize ≤ length (now out) ⌝ ∗ ⌜ size < 65_536 ⌝ }
+    ensures { λ _. ⌜ now (out .exit) ≡ sets (now (out .entry)) at (tag ∷ littleEndian shortSize size) ⌝ }
 {
     out[at] = tag;
-    put_u16(out, at + 1, size);
+    put_u16(out, at + TAG_SIZE, size as u16);
 }

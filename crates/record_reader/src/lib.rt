@@ -1,5 +1,6 @@
 // Reading the map record of document 01: a map's head and odds from bytes, into lent lists, for two and three axes.
 mod check;
+mod parts;
 mod reading;
 
 pub use reading::read_record2;

@@ -10,14 +10,20 @@ ghost use Rattle.types.specs.declared.points.Extents3.{Extents3};
 ghost use Rattle.grid_map.specs.Heads.{mapOutcome2, mapOutcome3};
 ghost use Rattle.marks.specs.Marking.{gridOf};
 ghost use Rattle.rows.specs.Rows.{refusalIn};
-use crate::check::extents_at2;
-use crate::check::extents_at3;
-use crate::check::model_at;
 use crate::check::record_check2;
 use crate::check::record_check3;
+use crate::parts::extents_field_at2;
+use crate::parts::extents_field_at3;
+use crate::parts::frame_field_at;
+use crate::parts::model_field_at;
 use checks::Check;
 use checks::cuts_in_bounds;
-use fields::u32_at;
+use fields::FRAME_AT2;
+use fields::FRAME_AT3;
+use fields::MODEL_AT2;
+use fields::MODEL_AT3;
+use fields::ROWS_AT2;
+use fields::ROWS_AT3;
 use grid_map::GridMap2;
 use grid_map::GridMap3;
 use grid_map::MapAnswer2;
@@ -26,7 +32,6 @@ use marks::clear_stamps;
 use rows::read_rows;
 use types::Bands;
 use types::Cuts;
-use types::Frame;
 use types::Model;
 use types::Pair;
 use types::Refusal;
@@ -37,7 +42,7 @@ fn read_sound2(bytes: &[u8], odds: &mut [f64], stamps: &mut [u32]) -> MapAnswer2
     ensures { λ r. ⌜ mapOutcome2 r (now (odds .exit)) (now (stamps .exit))
         ≡ readRecordEntry 2 [] (now (bytes .entry)) (gridOf (now (odds .entry)) (now (stamps .entry))) ⌝ }
 {
-    let extents = extents_at2(bytes);
+    let extents = extents_field_at2(bytes, 0);
     let width = extents.x as usize;
     let count = extents.y as usize;
     if odds.len() != width * count {
@@ -46,12 +51,12 @@ fn read_sound2(bytes: &[u8], odds: &mut [f64], stamps: &mut [u32]) -> MapAnswer2
     if stamps.len() != width * count {
         return MapAnswer2::Refused(Refusal::Buffer);
     }
-    read_rows(bytes, 41, width, count, odds);
+    read_rows(bytes, ROWS_AT2, width, count, odds);
     clear_stamps(stamps);
     MapAnswer2::Map(GridMap2 {
         extents,
-        model: model_at(bytes, 10),
-        frame: Frame(u32_at(bytes, 37)),
+        model: model_field_at(bytes, MODEL_AT2),
+        frame: frame_field_at(bytes, FRAME_AT2),
     })
 }
 
@@ -89,8 +94,8 @@ fn read_sound3(bytes: &[u8], cuts: Cuts, odds: &mut [f64], stamps: &mut [u32]) -
     ensures { λ r. ⌜ mapOutcome3 r (now (odds .exit)) (now (stamps .exit))
         ≡ readRecordEntry 3 (cutsOf cuts) (now (bytes .entry)) (gridOf (now (odds .entry)) (now (stamps .entry))) ⌝ }
 {
-    let extents = extents_at3(bytes);
-    let bands = alike(model_at(bytes, 12), cuts);
+    let extents = extents_field_at3(bytes, 0);
+    let bands = alike(model_field_at(bytes, MODEL_AT3), cuts);
     if !cuts_in_bounds(extents, bands) {
         return MapAnswer3::Refused(Refusal::Cuts);
     }
@@ -102,12 +107,12 @@ fn read_sound3(bytes: &[u8], cuts: Cuts, odds: &mut [f64], stamps: &mut [u32]) -
     if stamps.len() != width * count {
         return MapAnswer3::Refused(Refusal::Buffer);
     }
-    read_rows(bytes, 43, width, count, odds);
+    read_rows(bytes, ROWS_AT3, width, count, odds);
     clear_stamps(stamps);
     MapAnswer3::Map(GridMap3 {
         extents,
         bands,
-        frame: Frame(u32_at(bytes, 39)),
+        frame: frame_field_at(bytes, FRAME_AT3),
     })
 }
 

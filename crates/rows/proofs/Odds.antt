@@ -1,21 +1,17 @@
 -- The odds of a row and of all rows, one step at a time: what a loop over them has left. Assumes nothing.
-use Prim.Native.Nat.{ℕ, zero, suc, _+_, _-_, _*_, _≤_, _<_}
+use Prim.Native.Nat.{ℕ, zero, suc, _+_, _-_, _*_, _<_}
 use mathlib.Core.Bool.{true, false}
 use mathlib.Core.List.{List, [], _∷_, _++_, append-nil}
-use mathlib.Core.Path.{_≡_, refl, sym, ap, _∙_}
+use mathlib.Core.Path.{_≡_, refl, ap, _∙_}
 use native.Mathlib.Nat.{suc-mul}
 use native.Mathlib.Omega.{arith}
 use lib.Ieee.{Float, binary64, ofBits}
-use lib.ListN.{length, length-append, take, drop}
+use lib.ListN.{length, length-append, drop}
 use lib.Seq.{sets, sets-eq, drop-drop, drop-length}
 use Rattle.rules.specs.TheGridAndItsBounds.{Model}
-use Rattle.rules.specs.MapRecord.{fromLittleEndian, floatsIn, fromFloorToCeiling, oddsInBounds, fieldSize}
+use Rattle.rules.specs.Fields.{fromLittleEndian, floatsIn, headSize, fieldSize}
+use Rattle.rules.specs.MapRecord.{rowLength, fromFloorToCeiling, oddsInBounds}
 use Rattle.rows.specs.Rows.{oddsAt}
-
--- one of so many and those after it
-pub one-of : (n k : ℕ) → 0 < n → n * k ≡ k + (n - 1) * k
-one-of zero k h = absurd (omega arith)
-one-of (suc n) k h = let e : suc n - 1 ≡ n = omega arith in rw (suc-mul, e) (omega arith)
 
 -- ---- bounds
 pub bounds-broken : (m : Model) (x : Float) (xs : List Float) → fromFloorToCeiling m x ≡ false → oddsInBounds m (x ∷ xs) ≡ false
@@ -42,19 +38,19 @@ length-floats (suc n) bs = ap suc (length-floats n (drop 8 bs))
 
 -- ---- the rows' floats
 pub rows-step : (w n at : ℕ) (bs : List ℕ) → 0 < n
-    → oddsAt w n (drop at bs) ≡ floatsIn w (drop (at + 3) bs) ++ oddsAt w (n - 1) (drop (at + fieldSize (8 * w)) bs)
+    → oddsAt w n (drop at bs) ≡ floatsIn w (drop (at + headSize) bs) ++ oddsAt w (n - 1) (drop (at + fieldSize (rowLength w)) bs)
 unfolding oddsAt
 rows-step w zero at bs h = absurd (omega arith)
 rows-step w (suc n) at bs h =
     let e : suc n - 1 ≡ n = omega arith in
-    rw (e, drop-drop 3 at bs, drop-drop (fieldSize (8 * w)) at bs) refl
+    rw (e, drop-drop headSize at bs, drop-drop (fieldSize (rowLength w)) at bs) refl
 
 pub length-rows : (w n : ℕ) (bs : List ℕ) → length (oddsAt w n bs) ≡ n * w
 unfolding oddsAt
 length-rows w zero bs = omega arith
 length-rows w (suc n) bs =
-    length-append (floatsIn w (drop 3 bs)) (oddsAt w n (drop (fieldSize (8 * w)) bs))
-    ∙ (let a = length-floats w (drop 3 bs) in let b = length-rows w n (drop (fieldSize (8 * w)) bs) in let c = suc-mul n w in omega arith)
+    length-append (floatsIn w (drop headSize bs)) (oddsAt w n (drop (fieldSize (rowLength w)) bs))
+    ∙ (let a = length-floats w (drop headSize bs) in let b = length-rows w n (drop (fieldSize (rowLength w)) bs) in let c = suc-mul n w in omega arith)
 
 -- a run of stores over the whole list leaves the run
 pub sets-whole : (xs l : List Float) → length xs ≡ length l → sets l 0 xs ≡ xs

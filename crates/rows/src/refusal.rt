@@ -7,7 +7,7 @@ use checks::Check;
 use types::Refusal;
 
 // 10, with the offset of the field that breaks the record.
-pub fn broken(at: usize) -> Check
+pub fn record_broken(at: usize) -> Check
     ensures { λ r. ⌜ checkOf r ≡ some (brokenRecord at) ⌝ }
 {
     Check::Refused(Refusal::Record { offset: at as u64 })

@@ -4,15 +4,19 @@ ghost use Prim.Native.Nat.{_+_, _*_, _^_, _≤_, _<_};
 ghost use lib.ListN.{length, take, drop};
 ghost use lib.Seq.{sets};
 ghost use Rattle.rules.specs.TheGridAndItsBounds.{mostExtent};
-ghost use Rattle.rules.specs.MapRecord.{field, fieldSize, floatBytes, oddsInBounds, rowsBytes, rowsChecked};
+ghost use Rattle.rules.specs.Fields.{field, fieldSize, floatBytes};
+ghost use Rattle.rules.specs.MapRecord.{rowTag, rowLength, oddsInBounds, rowsBytes, rowsChecked};
 ghost use Rattle.types.specs.Models.{modelOf};
 ghost use Rattle.checks.specs.Checking.{checkOf};
 ghost use Rattle.rows.specs.Rows.{refusalIn};
-use crate::reading::within;
-use crate::refusal::broken;
+use crate::reading::from_floor_to_ceiling;
+use crate::refusal::record_broken;
 use checks::Check;
-use fields::put_f64;
+use fields::FLOAT_SIZE;
+use fields::HEAD_SIZE;
+use fields::ROW_TAG;
 use fields::put_field;
+use fields::put_floats;
 use types::Model;
 
 // The odds of one row, each within the bounds. The row is one of the list's.
@@ -23,7 +27,7 @@ fn odds_in_bounds(odds: &[f64], from: usize, width: usize, model: Model) -> bool
     let mut place = from;
     let mut left = width;
     while left > 0 {
-        if within(model, odds[place]) {
+        if from_floor_to_ceiling(model, odds[place]) {
             place += 1;
             left -= 1;
         } else {
@@ -35,7 +39,7 @@ fn odds_in_bounds(odds: &[f64], from: usize, width: usize, model: Model) -> bool
 
 // All rows, or 10 with the offset of the first whose odds are not within the bounds. The rows are the list's, and their bytes can be counted.
 pub fn rows_writable(odds: &[f64], width: usize, count: usize, model: Model, at: usize) -> Check
-    requires { ⌜ count * width ≤ length (now odds) ⌝ ∗ ⌜ at + count * fieldSize (8 * width) < 2 ^ 64 ⌝ }
+    requires { ⌜ count * width ≤ length (now odds) ⌝ ∗ ⌜ at + count * fieldSize (rowLength width) < 2 ^ 64 ⌝ }
     ensures { λ r. ⌜ checkOf r ≡ refusalIn (rowsChecked (modelOf model) width count at (now (odds .entry))) ⌝ }
 {
     let mut here = at;
@@ -43,44 +47,28 @@ pub fn rows_writable(odds: &[f64], width: usize, count: usize, model: Model, at:
     let mut left = count;
     while left > 0 {
         if odds_in_bounds(odds, place, width, model) {
-            here += 3 + 8 * width;
+            here += HEAD_SIZE + FLOAT_SIZE * width;
             place += width;
             left -= 1;
         } else {
-            return broken(here);
+            return record_broken(here);
         }
     }
     Check::Passed
 }
 
-// Floats of a list, from a place on. They are the list's, and there is room for them.
-pub fn write_floats(out: &mut [u8], at: usize, odds: &[f64], from: usize, width: usize)
-    requires { ⌜ at + 8 * width ≤ length (now out) ⌝ ∗ ⌜ from + width ≤ length (now odds) ⌝ }
-    ensures { λ _. ⌜ now (out .exit) ≡ sets (now (out .entry)) at (floatBytes (take width (drop from (now (odds .entry))))) ⌝ }
-{
-    let mut here = at;
-    let mut place = from;
-    let mut left = width;
-    while left > 0 {
-        put_f64(out, here, odds[place]);
-        here += 8;
-        place += 1;
-        left -= 1;
-    }
-}
-
 // A row's field. The row is one of the list's and short, and there is room for it.
 fn write_row(out: &mut [u8], at: usize, odds: &[f64], from: usize, width: usize)
-    requires { ⌜ at + fieldSize (8 * width) ≤ length (now out) ⌝ ∗ ⌜ from + width ≤ length (now odds) ⌝ ∗ ⌜ width ≤ mostExtent ⌝ }
-    ensures { λ _. ⌜ now (out .exit) ≡ sets (now (out .entry)) at (field 4 (floatBytes (take width (drop from (now (odds .entry)))))) ⌝ }
+    requires { ⌜ at + fieldSize (rowLength width) ≤ length (now out) ⌝ ∗ ⌜ from + width ≤ length (now odds) ⌝ ∗ ⌜ width ≤ mostExtent ⌝ }
+    ensures { λ _. ⌜ now (out .exit) ≡ sets (now (out .entry)) at (field rowTag (floatBytes (take width (drop from (now (odds .entry)))))) ⌝ }
 {
-    put_field(out, at, 4, (8 * width) as u16);
-    write_floats(out, at + 3, odds, from, width);
+    put_field(out, at, ROW_TAG, FLOAT_SIZE * width);
+    put_floats(out, at + HEAD_SIZE, odds, from, width);
 }
 
 // All rows. They are the list's and short, and there is room for them.
 pub fn write_rows(out: &mut [u8], at: usize, odds: &[f64], width: usize, count: usize)
-    requires { ⌜ at + count * fieldSize (8 * width) ≤ length (now out) ⌝ ∗ ⌜ count * width ≤ length (now odds) ⌝ ∗ ⌜ width ≤ mostExtent ⌝ }
+    requires { ⌜ at + count * fieldSize (rowLength width) ≤ length (now out) ⌝ ∗ ⌜ count * width ≤ length (now odds) ⌝ ∗ ⌜ width ≤ mostExtent ⌝ }
     ensures { λ _. ⌜ now (out .exit) ≡ sets (now (out .entry)) at (rowsBytes width count (now (odds .entry))) ⌝ }
 {
     let mut here = at;
@@ -88,7 +76,7 @@ pub fn write_rows(out: &mut [u8], at: usize, odds: &[f64], width: usize, count: 
     let mut left = count;
     while left > 0 {
         write_row(out, here, odds, place, width);
-        here += 3 + 8 * width;
+        here += HEAD_SIZE + FLOAT_SIZE * width;
         place += width;
         left -= 1;
     }

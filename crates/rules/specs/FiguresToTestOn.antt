@@ -30,8 +30,9 @@ use Rattle.rules.specs.MarksAndFrames.{setOdds, openedFrame, openedStamp
 use Rattle.rules.specs.OneBeam.{largerOf, smallerOf, cutTo, slab, slabs, directions, pointAt, bothBeyond, allWithin, isInside, clampAxis, clampPoint}
 use Rattle.rules.specs.OneBeam.{clippedAt, clip, marksAlong, marksBetween, beamMarks, integratedBeam, integratedFrom, integrated, allBits, flatShape}
 use Rattle.rules.specs.OneBeam.{beamsOf}
-use Rattle.rules.specs.MapRecord.{littleEndian, fromLittleEndian, field, fieldHere, extentBytes, extentsIn, floatBytes, floatsIn, rowCount, rowsBytes}
-use Rattle.rules.specs.MapRecord.{recordBytes, rowsOffset, oddsInBounds, endIn, rowsIn, frameIn, modelFrom, recordOf, anyRecordOf, rowsChecked, recordSize}
+use Rattle.rules.specs.Fields.{littleEndian, fromLittleEndian, field, fieldHere, floatBytes, floatsIn, fieldThen, rowsThen, nothingFollows, rowsOf, rowsTried}
+use Rattle.rules.specs.MapRecord.{extentBytes, extentsIn, rowCount, rowsBytes}
+use Rattle.rules.specs.MapRecord.{recordBytes, rowsOffset, oddsInBounds, joined, oddsThen, recordOf, anyRecordOf, rowsChecked, recordSize}
 use Rattle.rules.specs.MapRecord.{bandsFrom, sameBits, samePair, equalPairs, pairsChecked, roomFor, writable}
 use Rattle.rules.specs.RefusalNumbers.Entries.{Outcome, firstTooSmall, extentsRefusal, headRefusal, newEntry, resetEntry, beginScanEntry, markEntry, updateRayEntry}
 use Rattle.rules.specs.RefusalNumbers.Entries.{updateScanEntry, setLogOddsEntry, logOddsAtEntry, sampleLogOddsEntry, cellContainingEntry, readRecordEntry}
@@ -141,7 +142,7 @@ pub record Figures : Type 0 where
 
 -- Opening this one opens every definition of the rules and the library's float operations, so that the figures compute.
 unfoldable opened : ℕ
-unfolding numberF mag allFinite cells allAtLeast allAtMost fitsCapacity extentsInBounds stridesFrom strides pairBounded allPairs bounded floor pairAt rising cutsBelow lastExtent cutsInBounds layerOf onePerCell freshGrid truncated truncatedPoint within outsideAxes axisContaining containingFrom cellContaining along offAxes onGridFrom timesStrides flatIndex foldedAxis stencilAxis stencil corners cornerPlace weighed weighedWithout valueFrom slopeFrom gradientFrom sampleAt sample delta deltas larger primaryFrom primaryOf increment stepTo axisOf axesOf thresholdOf cellsYielded lineBetween plotter otherAfter primaryAfter axisAfter axesAfter lastStep earlierStep stepOf cellsWithin lineCells stepsAt stampOf clamp limited freed markFree occupiedStep occupy markOccupied markCell markAt marked changes setOdds openedFrame openedStamps openFrame largerOf smallerOf cutTo slab slabs directions pointAt bothBeyond allWithin isInside clampAxis clampPoint clippedAt clip marksAlong marksBetween beamMarks integratedBeam integratedFrom integrated allBits flatShape beamsOf littleEndian fromLittleEndian field fieldHere extentBytes extentsIn floatBytes floatsIn rowCount rowsBytes recordBytes rowsOffset oddsInBounds endIn rowsIn frameIn modelFrom recordOf anyRecordOf bandsFrom sameBits samePair equalPairs pairsChecked rowsChecked recordSize roomFor writable firstTooSmall extentsRefusal headRefusal newEntry resetEntry beginScanEntry markEntry updateRayEntry updateScanEntry setLogOddsEntry setLogOddsCheckedEntry logOddsAtEntry sampleLogOddsEntry cellContainingEntry readRecordEntry writeRecordEntry round add sub neg mul div lt le eq ofInt toSigned toUnsigned toBits ofBits isNan
+unfolding numberF mag allFinite cells allAtLeast allAtMost fitsCapacity extentsInBounds stridesFrom strides pairBounded allPairs bounded floor pairAt rising cutsBelow lastExtent cutsInBounds layerOf onePerCell freshGrid truncated truncatedPoint within outsideAxes axisContaining containingFrom cellContaining along offAxes onGridFrom timesStrides flatIndex foldedAxis stencilAxis stencil corners cornerPlace weighed weighedWithout valueFrom slopeFrom gradientFrom sampleAt sample delta deltas larger primaryFrom primaryOf increment stepTo axisOf axesOf thresholdOf cellsYielded lineBetween plotter otherAfter primaryAfter axisAfter axesAfter lastStep earlierStep stepOf cellsWithin lineCells stepsAt stampOf clamp limited freed markFree occupiedStep occupy markOccupied markCell markAt marked changes setOdds openedFrame openedStamps openFrame largerOf smallerOf cutTo slab slabs directions pointAt bothBeyond allWithin isInside clampAxis clampPoint clippedAt clip marksAlong marksBetween beamMarks integratedBeam integratedFrom integrated allBits flatShape beamsOf littleEndian fromLittleEndian field fieldHere extentBytes extentsIn floatBytes floatsIn rowCount rowsBytes recordBytes rowsOffset oddsInBounds fieldThen rowsThen nothingFollows rowsOf rowsTried joined oddsThen recordOf anyRecordOf bandsFrom sameBits samePair equalPairs pairsChecked rowsChecked recordSize roomFor writable firstTooSmall extentsRefusal headRefusal newEntry resetEntry beginScanEntry markEntry updateRayEntry updateScanEntry setLogOddsEntry setLogOddsCheckedEntry logOddsAtEntry sampleLogOddsEntry cellContainingEntry readRecordEntry writeRecordEntry round add sub neg mul div lt le eq ofInt toSigned toUnsigned toBits ofBits isNan
 opened = 0
 
 pub figures : Figures

@@ -1,4 +1,5 @@
--- Document 01, section by section. `Floats` is its opening; each other file has the name of its section. `SweepFile` is change request 2.
+-- Document 01, section by section. `Floats` is its opening; each other file has the name of its section. `Fields` is what records and files are made
+-- of, `SweepFile` is change request 2.
 pub mod Floats
 pub mod RefusalNumbers
 pub mod TheGridAndItsBounds
@@ -6,6 +7,7 @@ pub mod Coordinates
 pub mod TheLine
 pub mod MarksAndFrames
 pub mod OneBeam
+pub mod Fields
 pub mod MapRecord
 pub mod SweepFile
 pub mod FiguresToTestOn

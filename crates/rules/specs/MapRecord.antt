@@ -1,75 +1,74 @@
--- Document 01, "Map record (added)": the bytes of a map, and what a list of bytes means. A record's floats are binary64's. Definitions only.
-use Prim.Native.Nat.{ℕ, zero, suc, _+_, _*_, _/_, _%_}
+-- Document 01, "Map record (added)": the bytes of a map, and what a list of bytes means. It is made of the house's fields (`Fields`): each has a name, a
+-- tag, a length and what it means, and edition 1 is one arrangement of them. Definitions only.
+use Prim.Native.Nat.{ℕ, zero, suc, _+_, _*_}
 use mathlib.Core.Bool.{Bool, true, cond, _&&_}
 use mathlib.Core.List.{List, [], _∷_, _++_}
 use lib.Dec.{eqb, leb}
 use lib.ListN.{length, getD, take, drop}
-use lib.Ieee.{Float, nan, binary64, le, toBits, ofBits}
+use lib.Ieee.{Float, nan, binary64, le, toBits}
 use Rattle.rules.specs.RefusalNumbers.{Answer, given, refused, andThen, brokenRecord, noRoom}
 use Rattle.rules.specs.TheGridAndItsBounds.{Pair, Band, Model, Head, plainModel, cells, floor, bounded, layerOf, extentsInBounds}
 use Rattle.rules.specs.MarksAndFrames.{openFrame}
+use Rattle.rules.specs.Fields.{littleEndian, fromLittleEndian, shortSize, wordSize, floatSize, floatBytes, floatsIn, tagSize, fieldSize, field}
+use Rattle.rules.specs.Fields.{Field, Reading, soundOr, fieldThen, rowsThen, nothingFollows, rowsOf, rowsTried}
 
--- "Fields: one-byte tag, two-byte length, data; little-endian."
-unfoldable pub littleEndian : ℕ → ℕ → List ℕ
-littleEndian zero n = []
-littleEndian (suc k) n = n % 256 ∷ littleEndian k (n / 256)
+-- ---- the fields
+-- "1 extents (u16 each; its length, 4 or 6, gives the axes)"
+abbrev pub extentsTag : ℕ
+extentsTag = 1
 
-unfoldable pub fromLittleEndian : ℕ → List ℕ → ℕ
-fromLittleEndian zero bs = 0
-fromLittleEndian (suc k) [] = 0
-fromLittleEndian (suc k) (b ∷ bs) = b + 256 * fromLittleEndian k bs
+abbrev pub extentsLength : ℕ → ℕ
+extentsLength axes = shortSize * axes
 
-unfoldable pub field : ℕ → List ℕ → List ℕ
-field tag bytes = tag ∷ littleEndian 2 (length bytes) ++ bytes
-
--- a field of this tag and this many bytes stands here whole
-unfoldable pub fieldHere : ℕ → ℕ → List ℕ → Bool
-fieldHere tag n rest = leb (3 + n) (length rest) && eqb (getD rest 0 0) tag && eqb (fromLittleEndian 2 (drop 1 rest)) n
-
-abbrev pub fieldSize : ℕ → ℕ
-fieldSize n = 3 + n
-
--- numbers of two bytes, and floats, one after another
 unfoldable pub extentBytes : List ℕ → List ℕ
 extentBytes [] = []
-extentBytes (e ∷ es) = littleEndian 2 e ++ extentBytes es
+extentBytes (e ∷ es) = littleEndian shortSize e ++ extentBytes es
 
 unfoldable pub extentsIn : ℕ → List ℕ → List ℕ
 extentsIn zero bs = []
-extentsIn (suc n) bs = fromLittleEndian 2 bs ∷ extentsIn n (drop 2 bs)
+extentsIn (suc n) bs = fromLittleEndian shortSize bs ∷ extentsIn n (drop shortSize bs)
 
-unfoldable pub floatBytes : List Float → List ℕ
-floatBytes [] = []
-floatBytes (x ∷ xs) = littleEndian 8 (toBits binary64 x) ++ floatBytes xs
+abbrev pub extentsField : ℕ → Field (List ℕ)
+extentsField axes = record { tag = extentsTag; size = extentsLength axes; means = extentsIn axes; sound = extentsInBounds }
 
-unfoldable pub floatsIn : ℕ → List ℕ → List Float
-floatsIn zero bs = []
-floatsIn (suc n) bs = ofBits binary64 (fromLittleEndian 8 bs) ∷ floatsIn n (drop 8 bs)
+-- "2 occupied, free, ceiling": one pair of steps and no cuts. On three axes, too: there whoever reads the record gives the cuts.
+abbrev pub modelTag : ℕ
+modelTag = 2
+
+abbrev pub modelLength : ℕ
+modelLength = floatSize * 3
+
+abbrev pub modelBytes : Model → List ℕ
+modelBytes m = floatBytes (m .lowest .occupied ∷ m .lowest .free ∷ m .ceiling ∷ [])
+
+abbrev pub modelIn : List Float → Model
+modelIn xs = plainModel (record { occupied = getD xs 0 nan; free = getD xs 1 nan }) (getD xs 2 nan)
+
+abbrev pub modelField : Field Model
+modelField = record { tag = modelTag; size = modelLength; means = λ bs. modelIn (floatsIn 3 bs); sound = bounded }
+
+-- "3 frame, 1 to 2,147,483,647"
+abbrev pub frameTag : ℕ
+frameTag = 3
+
+abbrev pub frameLength : ℕ
+frameLength = wordSize
+
+abbrev pub frameField : Field ℕ
+frameField = record { tag = frameTag; size = frameLength; means = fromLittleEndian wordSize; sound = openFrame }
 
 -- "4 one row of odds along axis 0, for every row in index order"
+abbrev pub rowTag : ℕ
+rowTag = 4
+
+abbrev pub rowLength : ℕ → ℕ
+rowLength width = floatSize * width
+
 abbrev pub rowWidth : List ℕ → ℕ
 rowWidth es = getD es 0 0
 
 unfoldable pub rowCount : List ℕ → ℕ
 rowCount es = cells (drop 1 es)
-
-unfoldable pub rowsBytes : ℕ → ℕ → List Float → List ℕ
-rowsBytes width zero odds = []
-rowsBytes width (suc n) odds = field 4 (floatBytes (take width odds)) ++ rowsBytes width n (drop width odds)
-
--- "In this order: 1 extents (u16 each; its length, 4 or 6, gives the axes); 2 occupied, free, ceiling; 3 frame, 1 to 2,147,483,647;
--- 4 one row of odds along axis 0, for every row in index order; 5 empty, the end. Nothing follows."
-unfoldable pub recordBytes : Head → List Float → List ℕ
-recordBytes h odds =
-    field 1 (extentBytes (h .extents))
-    ++ field 2 (floatBytes (h .model .lowest .occupied ∷ h .model .lowest .free ∷ h .model .ceiling ∷ []))
-    ++ field 3 (littleEndian 4 (h .frame))
-    ++ rowsBytes (rowWidth (h .extents)) (rowCount (h .extents)) odds
-    ++ field 5 []
-
--- where the rows begin: after the extents' field, the model's and the frame's
-unfoldable pub rowsOffset : ℕ → ℕ
-rowsOffset axes = fieldSize (2 * axes) + fieldSize 24 + fieldSize 4
 
 -- Change request 3: "A record's odds must lie from the floor to the ceiling, both included and NaN excluded, when read and when written."
 abbrev pub fromFloorToCeiling : Model → Float → Bool
@@ -79,56 +78,72 @@ unfoldable pub oddsInBounds : Model → List Float → Bool
 oddsInBounds m [] = true
 oddsInBounds m (x ∷ xs) = fromFloorToCeiling m x && oddsInBounds m xs
 
+abbrev pub rowField : Model → ℕ → Field (List Float)
+rowField m width = record { tag = rowTag; size = rowLength width; means = floatsIn width; sound = oddsInBounds m }
+
+-- "5 empty, the end"
+abbrev pub endTag : ℕ
+endTag = 5
+
+abbrev pub endLength : ℕ
+endLength = 0
+
+abbrev pub endField : Field (Unit {0})
+endField = record { tag = endTag; size = endLength; means = λ bs. tt; sound = λ t. true }
+
+-- ---- the bytes of a map
+unfoldable pub rowsBytes : ℕ → ℕ → List Float → List ℕ
+rowsBytes width n odds = rowsOf (λ left. field rowTag (floatBytes (take width left))) (drop width) n odds
+
+-- "In this order: 1 extents ..; 2 occupied, free, ceiling; 3 frame ..; 4 one row of odds along axis 0, for every row in index order; 5 empty, the end.
+-- Nothing follows."
+unfoldable pub recordBytes : Head → List Float → List ℕ
+recordBytes h odds =
+    field extentsTag (extentBytes (h .extents))
+    ++ field modelTag (modelBytes (h .model))
+    ++ field frameTag (littleEndian wordSize (h .frame))
+    ++ rowsBytes (rowWidth (h .extents)) (rowCount (h .extents)) odds
+    ++ field endTag []
+
+-- where the rows begin: after the extents' field, the model's and the frame's
+unfoldable pub rowsOffset : ℕ → ℕ
+rowsOffset axes = fieldSize (extentsLength axes) + fieldSize modelLength + fieldSize frameLength
+
+-- ---- what a list of bytes means
 -- what a record holds: the head, and the odds in index order
 pub record Stored : Type 0 where
   pub head : Head
   pub odds : List Float
 
--- a field's contents where it stands whole and they are within their bounds; else the record is broken at its offset
-abbrev pub soundOr : {A : Type 0} → ℕ → Bool → A → Answer A
-soundOr offset sound a = cond sound (given a) (refused (brokenRecord offset))
+-- rows of numbers, one after another
+unfoldable pub joined : {A : Type 0} → List (List A) → List A
+joined [] = []
+joined (xs ∷ rows) = xs ++ joined rows
 
--- "5 empty, the end. Nothing follows." "for bytes after the end, theirs"
-unfoldable pub endIn : ℕ → List ℕ → Answer (List Float)
-endIn offset rest =
-    andThen (soundOr offset (fieldHere 5 0 rest) tt) (λ (t : Unit {0}). soundOr (offset + fieldSize 0) (eqb (length rest) (fieldSize 0)) [])
+-- so many rows of odds, then what follows them
+unfoldable pub oddsThen : {B : Type 0} → Model → ℕ → ℕ → (List Float → Reading B) → Reading B
+oddsThen m width n next = rowsThen (fieldThen (rowField m width)) n (λ rows. next (joined rows))
 
-unfoldable pub rowsIn : Model → ℕ → ℕ → ℕ → List ℕ → Answer (List Float)
-rowsIn m width zero offset rest = endIn offset rest
-rowsIn m width (suc n) offset rest =
-    let row : List Float = floatsIn width (drop 3 rest) in
-    let size : ℕ = fieldSize (8 * width) in
-    andThen (soundOr offset (fieldHere 4 (8 * width) rest && oddsInBounds m row) row)
-    (λ xs. andThen (rowsIn m width n (offset + size) (drop size rest)) (λ ys. given (xs ++ ys)))
+-- the end's field, and nothing after it
+abbrev pub endThen : {B : Type 0} → B → Reading B
+endThen b = fieldThen endField (λ (t : Unit {0}). nothingFollows b)
 
 -- the record of so many axes that a list of bytes is, or 10 with the offset of its first broken field
-unfoldable pub frameIn : ℕ → List ℕ → Model → List ℕ → Answer Stored
-frameIn offset es m rest =
-    let k : ℕ = fromLittleEndian 4 (drop 3 rest) in
-    andThen (soundOr offset (fieldHere 3 4 rest && openFrame k) k)
-    (λ frame. andThen (rowsIn m (rowWidth es) (rowCount es) (offset + fieldSize 4) (drop (fieldSize 4) rest))
-    (λ odds. given (record { head = record { extents = es; model = m; frame = frame }; odds = odds })))
-
--- one pair of steps and no cuts, on three axes too: those are whose reads it
-abbrev pub modelIn : List Float → Model
-modelIn xs = plainModel (record { occupied = getD xs 0 nan; free = getD xs 1 nan }) (getD xs 2 nan)
-
-unfoldable pub modelFrom : ℕ → List ℕ → List ℕ → Answer Stored
-modelFrom offset es rest =
-    let m : Model = modelIn (floatsIn 3 (drop 3 rest)) in
-    andThen (soundOr offset (fieldHere 2 24 rest && bounded m) m) (λ model. frameIn (offset + fieldSize 24) es model (drop (fieldSize 24) rest))
-
 unfoldable pub recordOf : ℕ → List ℕ → Answer Stored
 recordOf axes bytes =
-    let es : List ℕ = extentsIn axes (drop 3 bytes) in
-    andThen (soundOr 0 (fieldHere 1 (2 * axes) bytes && extentsInBounds es) es)
-    (λ extents. modelFrom (fieldSize (2 * axes)) extents (drop (fieldSize (2 * axes)) bytes))
+    fieldThen (extentsField axes)
+    (λ es. fieldThen modelField
+    (λ m. fieldThen frameField
+    (λ frame. oddsThen m (rowWidth es) (rowCount es)
+    (λ odds. endThen (record { head = record { extents = es; model = m; frame = frame }; odds = odds })))))
+    0
+    bytes
 
 -- "its length, 4 or 6, gives the axes"
 unfoldable pub anyRecordOf : List ℕ → Answer Stored
 anyRecordOf bytes =
-    let n : ℕ = fromLittleEndian 2 (drop 1 bytes) in
-    cond (eqb n 4) (recordOf 2 bytes) (cond (eqb n 6) (recordOf 3 bytes) (refused (brokenRecord 0)))
+    let n : ℕ = fromLittleEndian shortSize (drop tagSize bytes) in
+    cond (eqb n (extentsLength 2)) (recordOf 2 bytes) (cond (eqb n (extentsLength 3)) (recordOf 3 bytes) (refused (brokenRecord 0)))
 
 -- Change request 6: "Whoever reads an edition 1 record of three axes supplies the cuts." Every band has the record's pair.
 unfoldable pub bandsFrom : Pair → List ℕ → List Band
@@ -155,17 +170,15 @@ equalPairs p [] = true
 equalPairs p (b ∷ bs) = samePair p (b .pair) && equalPairs p bs
 
 unfoldable pub pairsChecked : Head → Answer (Unit {0})
-pairsChecked h = soundOr (fieldSize (2 * length (h .extents))) (equalPairs (h .model .lowest) (h .model .above)) tt
+pairsChecked h = soundOr (fieldSize (extentsLength (length (h .extents)))) (equalPairs (h .model .lowest) (h .model .above)) tt
 
 -- "Writing applies the same bounds .. to odds (10, offset of that row), before 11."
 unfoldable pub rowsChecked : Model → ℕ → ℕ → ℕ → List Float → Answer (Unit {0})
-rowsChecked m width zero offset odds = given tt
-rowsChecked m width (suc n) offset odds =
-    andThen (soundOr offset (oddsInBounds m (take width odds)) tt)
-    (λ (t : Unit {0}). rowsChecked m width n (offset + fieldSize (8 * width)) (drop width odds))
+rowsChecked m width n offset odds =
+    rowsTried (λ at left. soundOr at (oddsInBounds m (take width left)) tt) (drop width) (fieldSize (rowLength width)) n offset odds
 
 unfoldable pub recordSize : List ℕ → ℕ
-recordSize es = rowsOffset (length es) + rowCount es * fieldSize (8 * rowWidth es) + fieldSize 0
+recordSize es = rowsOffset (length es) + rowCount es * fieldSize (rowLength (rowWidth es)) + fieldSize endLength
 
 unfoldable pub roomFor : List ℕ → ℕ → Answer ℕ
 roomFor es room = cond (leb (recordSize es) room) (given (recordSize es)) (refused (noRoom (recordSize es)))

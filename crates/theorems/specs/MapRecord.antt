@@ -29,7 +29,8 @@ use borrow.Author.Tests.{eq-eqb, ne-eqb}
 use Rattle.rules.specs.RefusalNumbers.{Refusal, Answer, given, refused, brokenRecord}
 use Rattle.rules.specs.RefusalNumbers.Entries.{headRefusal, usesOf, writing, Outcome, readRecordEntry, writeRecordEntry}
 use Rattle.rules.specs.TheGridAndItsBounds.{Head, Grid, cells, cutsInBounds}
-use Rattle.rules.specs.MapRecord.{Stored, fromLittleEndian, recordBytes, recordOf, anyRecordOf, writable}
+use Rattle.rules.specs.Fields.{fromLittleEndian}
+use Rattle.rules.specs.MapRecord.{Stored, recordBytes, recordOf, anyRecordOf, writable}
 use Rattle.theorems.specs.MapRecord.Words.{AreBytes, Held, IsRecord, IsBroken, mapRead, SameReading, AnyAxes, cutsOf, plainHead}
 use Rattle.theorems.specs.MapRecord.Cuts.{cuts-back, with-cuts-writes}
 use Rattle.theorems.specs.MapRecord.Fields.{begins-within}

@@ -5,7 +5,7 @@ use mathlib.Core.List.{List, [], _∷_, _++_, map}
 use mathlib.Core.Path.{_≡_, refl}
 use mathlib.Core.Bool.{true}
 use lib.IntN.{pos, negsuc}
-use lib.ListN.{length, replicate, take}
+use lib.ListN.{length, replicate, set, take}
 use lib.Ieee.{Float, nan, binary64}
 use Rattle.rules.specs.RefusalNumbers.{given, refused}
 use Rattle.rules.specs.RefusalNumbers.{dimensionTooSmall, capacityOverflow, badModel, badBuffer}
@@ -22,6 +22,31 @@ use Rattle.rules.specs.FiguresToTestOn.{plus, minus, model, headOf, fres
 -- the record of the map of 2 by 2 with odds 0, 1, 2, 3 at frame 2
 abbrev stored : List ℕ
 stored = recordBytes (headOf 2 2 2) upTo3
+
+-- its fields in bytes
+abbrev extentsPart : List ℕ
+extentsPart = 1 ∷ 4 ∷ 0 ∷ 2 ∷ 0 ∷ 2 ∷ 0 ∷ []
+
+abbrev modelPart : List ℕ
+modelPart =
+    2 ∷ 24 ∷ 0
+    ∷ 0 ∷ 0 ∷ 0 ∷ 0 ∷ 0 ∷ 0 ∷ 232 ∷ 63
+    ∷ 0 ∷ 0 ∷ 0 ∷ 0 ∷ 0 ∷ 0 ∷ 224 ∷ 191
+    ∷ 0 ∷ 0 ∷ 0 ∷ 0 ∷ 0 ∷ 0 ∷ 16 ∷ 64
+    ∷ []
+
+abbrev framePart : List ℕ
+framePart = 3 ∷ 4 ∷ 0 ∷ 2 ∷ 0 ∷ 0 ∷ 0 ∷ []
+
+abbrev rowsPart : List ℕ
+rowsPart =
+    4 ∷ 16 ∷ 0
+    ∷ 0 ∷ 0 ∷ 0 ∷ 0 ∷ 0 ∷ 0 ∷ 0 ∷ 0
+    ∷ 0 ∷ 0 ∷ 0 ∷ 0 ∷ 0 ∷ 0 ∷ 240 ∷ 63
+    ∷ 4 ∷ 16 ∷ 0
+    ∷ 0 ∷ 0 ∷ 0 ∷ 0 ∷ 0 ∷ 0 ∷ 0 ∷ 64
+    ∷ 0 ∷ 0 ∷ 0 ∷ 0 ∷ 0 ∷ 0 ∷ 8 ∷ 64
+    ∷ []
 
 -- the floor and the ceiling, and zeros of both signs
 abbrev atBounds : List Float
@@ -50,8 +75,16 @@ pub record AddedAnswers : Type 0 where
   pub numbers-left-over : scanOf (halfF ∷ []) [] .answer ≡ refused badBeams
   -- "Map 2 by 2: 82 bytes."
   pub bytes-of-two-by-two : length stored ≡ 82
+  -- field by field: the extents 2 and 2; the model 0.75, -0.5 and 4; the frame 2; two rows, 0 and 1, 2 and 3; the end
+  pub byte-by-byte : stored ≡ extentsPart ++ modelPart ++ framePart ++ rowsPart ++ 5 ∷ 0 ∷ 0 ∷ []
   pub reads-what-was-written : reading stored ≡ record { answer = given (headOf 2 2 2); lent = lent upTo3 }
   pub any-number-of-axes : anyRecordOf stored ≡ given (record { head = headOf 2 2 2; odds = upTo3 })
+  -- an extent of 1; an occupied step of 0; frame 0; no end; a number of axes that no map has
+  pub extent-too-small : reading (set stored 3 1) ≡ brokenAt 0
+  pub model-off-bounds : reading (set (set stored 16 0) 17 0) ≡ brokenAt 7
+  pub frame-not-open : reading (set stored 37 0) ≡ brokenAt 34
+  pub end-absent : reading (take 79 stored) ≡ brokenAt 79
+  pub no-such-axes : anyRecordOf (set stored 1 8) ≡ refused (brokenRecord 0)
   -- cut short within the last row; bytes after the end; odds above the ceiling; two axes asked of a record of three
   pub cut-short : reading (take 78 stored) ≡ brokenAt 60
   pub bytes-after-the-end : reading (stored ++ 0 ∷ []) ≡ brokenAt 82
@@ -95,8 +128,14 @@ addedAnswers =
       strange-byte = refl;
       numbers-left-over = refl;
       bytes-of-two-by-two = refl;
+      byte-by-byte = refl;
       reads-what-was-written = refl;
       any-number-of-axes = refl;
+      extent-too-small = refl;
+      model-off-bounds = refl;
+      frame-not-open = refl;
+      end-absent = refl;
+      no-such-axes = refl;
       cut-short = refl;
       bytes-after-the-end = refl;
       odds-too-high = refl;

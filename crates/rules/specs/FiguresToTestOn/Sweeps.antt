@@ -4,7 +4,7 @@ use Prim.Native.Nat.{ℕ}
 use mathlib.Core.Bool.{true, false}
 use mathlib.Core.List.{List, [], _∷_, _++_}
 use mathlib.Core.Path.{_≡_, refl}
-use lib.ListN.{length, replicate, set, take}
+use lib.ListN.{length, getD, replicate, set, take, drop}
 use lib.Ieee.{nan, binary64}
 use Rattle.rules.specs.RefusalNumbers.{given, refused, badBeams, badFrame, noRoom, rayInList, brokenSweep}
 use Rattle.rules.specs.RefusalNumbers.Entries.{Outcome}
@@ -41,6 +41,8 @@ pub record SweepAnswers : Type 0 where
   -- no beams: three fields of 4, 5 and 7 bytes
   pub bytes-of-no-beams : sweepBytes 3 513 [] ≡ 1 ∷ 1 ∷ 0 ∷ 3 ∷ 2 ∷ 2 ∷ 0 ∷ 1 ∷ 2 ∷ 4 ∷ 4 ∷ 0 ∷ 0 ∷ 0 ∷ 0 ∷ 0 ∷ []
   pub bytes-of-two-beams : length file ≡ 88
+  -- a beam's field: its tag and length, the first number, 0.5, and the byte of a Hit
+  pub bytes-of-a-beam : take 11 (drop 9 file) ++ getD file 44 0 ∷ [] ≡ 3 ∷ 33 ∷ 0 ∷ 0 ∷ 0 ∷ 0 ∷ 0 ∷ 0 ∷ 0 ∷ 224 ∷ 63 ∷ 1 ∷ []
   pub reads-what-was-written : sweepOf 2 file ≡ given (record { station = 513; beams = beamsOfTwo })
   -- three axes for two; cut within a beam; a byte of 2; a count of three; bytes after the end
   pub three-axes-for-two : sweepOf 2 (sweepBytes 3 513 []) ≡ refused (brokenSweep 0)
@@ -65,6 +67,7 @@ sweepAnswers =
     record {
       bytes-of-no-beams = refl;
       bytes-of-two-beams = refl;
+      bytes-of-a-beam = refl;
       reads-what-was-written = refl;
       three-axes-for-two = refl;
       cut-short = refl;

@@ -6,23 +6,23 @@ use mathlib.Core.Option.{none}
 use mathlib.Core.Path.{_≡_, refl, ap, ap₂, _∙_}
 use native.Mathlib.Omega.{arith}
 use lib.Dec.{leb}
-use lib.ListN.{length, drop, length-append}
+use lib.ListN.{length, length-append}
 use lib.Ieee.{Float}
 use borrow.Author.Tests.{leb-true, le-leb}
 use Rattle.rules.specs.RefusalNumbers.{given, refused, andThen, noRoom}
 use Rattle.rules.specs.RefusalNumbers.Entries.{headRefusal, usesOf, writing}
-use Rattle.rules.specs.TheGridAndItsBounds.{Band, Model, Head, plainModel, extentsInBounds, pairBounded, allPairs, bounded}
-use Rattle.rules.specs.MarksAndFrames.{openFrame}
-use Rattle.rules.specs.MapRecord.{Stored, littleEndian, fromLittleEndian, field, fieldSize, extentBytes, extentsIn, floatBytes, floatsIn}
-use Rattle.rules.specs.MapRecord.{rowWidth, rowCount, rowsBytes, recordBytes, rowsOffset, rowsIn}
-use Rattle.rules.specs.MapRecord.{frameIn, modelFrom, recordOf, equalPairs, pairsChecked, rowsChecked, recordSize, roomFor, writable}
+use Rattle.rules.specs.TheGridAndItsBounds.{Band, Model, Head, plainModel, pairBounded, allPairs, bounded}
+use Rattle.rules.specs.Fields.{littleEndian, wordSize, fieldSize, field}
+use Rattle.rules.specs.MapRecord.{extentsTag, extentsLength, extentBytes, extentsField, modelTag, modelBytes, modelIn, modelField, frameTag, frameField, endTag}
+use Rattle.rules.specs.MapRecord.{rowWidth, rowCount, rowsBytes, recordBytes, rowsOffset, recordOf}
+use Rattle.rules.specs.MapRecord.{equalPairs, pairsChecked, rowsChecked, recordSize, roomFor, writable}
 use Rattle.theorems.specs.MapRecord.Words.{Are64, Held, plainHead}
 use Rattle.theorems.specs.MapRecord.Each.{both}
 use Rattle.theorems.specs.MapRecord.Bytes.{little-endian-length, little-endian-back}
 use Rattle.theorems.specs.MapRecord.Numbers.{extent-bytes-length, extents-back, float-bytes-length, floats-back}
-use Rattle.theorems.specs.MapRecord.Fields.{field-length, field-contents, field-after, field-found, sound-given}
+use Rattle.theorems.specs.MapRecord.Fields.{field-length, sound-given, field-back}
+use Rattle.theorems.specs.MapRecord.Rows.{rows-bytes-length, end-back, rows-back}
 use Rattle.laws.specs.Answers.{then-given}
-use Rattle.theorems.specs.MapRecord.Rows.{rows-bytes-length, rows-back}
 use Rattle.record_writer.proofs.Ceilings.{rows-by-ceiling}
 use Rattle.theorems.specs.MapRecord.Heads.{axes-few, extents-in-two-bytes, row-narrow, rows-are-cells, tests-of-writing}
 
@@ -37,56 +37,19 @@ pub record-bytes-length : (h : Head) (odds : List Float) → length odds ≡ row
 unfolding recordBytes recordSize rowsOffset
 record-bytes-length h odds e =
     let es = h .extents in
-    let fields = field 1 (extentBytes es) ++ field 2 (floatBytes (modelFloats (h .model))) ++ field 3 (littleEndian 4 (h .frame)) in
-    length-append (fields ++ rowsBytes (rowWidth es) (rowCount es) odds) (field 5 [])
+    let fields = field extentsTag (extentBytes es) ++ field modelTag (modelBytes (h .model)) ++ field frameTag (littleEndian wordSize (h .frame)) in
+    length-append (fields ++ rowsBytes (rowWidth es) (rowCount es) odds) (field endTag [])
     ∙ ap₂ _+_
     (length-append fields (rowsBytes (rowWidth es) (rowCount es) odds)
     ∙ ap₂ _+_
-    (length-append (field 1 (extentBytes es) ++ field 2 (floatBytes (modelFloats (h .model)))) (field 3 (littleEndian 4 (h .frame)))
+    (length-append (field extentsTag (extentBytes es) ++ field modelTag (modelBytes (h .model))) (field frameTag (littleEndian wordSize (h .frame)))
     ∙ ap₂ _+_
-    (length-append (field 1 (extentBytes es)) (field 2 (floatBytes (modelFloats (h .model))))
-    ∙ ap₂ _+_ (field-length 1 (extentBytes es) ∙ ap fieldSize (extent-bytes-length es))
-    (field-length 2 (floatBytes (modelFloats (h .model))) ∙ ap fieldSize (float-bytes-length (modelFloats (h .model)))))
-    (field-length 3 (littleEndian 4 (h .frame)) ∙ ap fieldSize (little-endian-length 4 (h .frame))))
+    (length-append (field extentsTag (extentBytes es)) (field modelTag (modelBytes (h .model)))
+    ∙ ap₂ _+_ (field-length extentsTag (extentBytes es) ∙ ap fieldSize (extent-bytes-length es))
+    (field-length modelTag (modelBytes (h .model)) ∙ ap fieldSize (float-bytes-length (modelFloats (h .model)))))
+    (field-length frameTag (littleEndian wordSize (h .frame)) ∙ ap fieldSize (little-endian-length wordSize (h .frame))))
     (rows-bytes-length (rowWidth es) (rowCount es) odds e))
-    (field-length 5 [])
-
--- ---- the fields, last to first
-frame-back : (o : ℕ) (es : List ℕ) (m : Model) (frame : ℕ) (odds : List Float) (rows : List ℕ) → openFrame frame ≡ true → frame < 4_294_967_296
-    → rowsIn m (rowWidth es) (rowCount es) (o + fieldSize 4) rows ≡ given odds
-    → frameIn o es m (field 3 (littleEndian 4 frame) ++ rows)
-    ≡ given (record { head = record { extents = es; model = m; frame = frame }; odds = odds })
-unfolding frameIn
-frame-back o es m frame odds rows t l e =
-    let four = little-endian-length 4 frame in
-    let bytes = littleEndian 4 frame in
-    let here = field-found 3 bytes rows 4 four (omega arith) in
-    let is : fromLittleEndian 4 (drop 3 (field 3 bytes ++ rows)) ≡ frame =
-    ap (fromLittleEndian 4) (field-contents 3 bytes rows) ∙ little-endian-back 4 frame rows l in
-    rw (here, is, t, field-after 3 bytes rows 4 four, e) refl
-
--- one pair comes back, and no cuts
-model-back : (o : ℕ) (es : List ℕ) (m : Model) (s : Stored) (rest : List ℕ) → bounded (plainModel (m .lowest) (m .ceiling)) ≡ true → Are64 (modelFloats m)
-    → frameIn (o + fieldSize 24) es (plainModel (m .lowest) (m .ceiling)) rest ≡ given s → modelFrom o es (field 2 (floatBytes (modelFloats m)) ++ rest) ≡ given s
-unfolding modelFrom
-model-back o es m s rest t h e =
-    let bytes = floatBytes (modelFloats m) in
-    let many : length bytes ≡ 24 = float-bytes-length (modelFloats m) in
-    let here = field-found 2 bytes rest 24 many (omega arith) in
-    let is : floatsIn 3 (drop 3 (field 2 bytes ++ rest)) ≡ modelFloats m =
-    ap (floatsIn 3) (field-contents 2 bytes rest) ∙ floats-back (modelFloats m) rest 3 refl h in
-    rw (here, is, t, field-after 2 bytes rest 24 many, e) refl
-
-extents-field-back : (es : List ℕ) (s : Stored) (rest : List ℕ) → extentsInBounds es ≡ true → length es ≤ 24
-    → extentsIn (length es) (extentBytes es ++ rest) ≡ es → modelFrom (fieldSize (2 * length es)) es rest ≡ given s
-    → recordOf (length es) (field 1 (extentBytes es) ++ rest) ≡ given s
-unfolding recordOf
-extents-field-back es s rest t l back e =
-    let bytes = extentBytes es in
-    let many = extent-bytes-length es in
-    let here = field-found 1 bytes rest (2 * length es) many (omega arith) in
-    let is : extentsIn (length es) (drop 3 (field 1 bytes ++ rest)) ≡ es = ap (extentsIn (length es)) (field-contents 1 bytes rest) ∙ back in
-    rw (here, is, t, field-after 1 bytes rest (2 * length es) many, e) refl
+    (field-length endTag [])
 
 -- ---- the whole
 room-given : (es : List ℕ) (room n : ℕ) → roomFor es room ≡ given n → (recordSize es ≡ n) × (n ≤ room)
@@ -127,7 +90,7 @@ pub writable-is : (h : Head) (odds : List Float) (room n : ℕ) → writable h o
 unfolding writable pairsChecked
 writable-is h odds room n e =
     let es = h .extents in
-    let p = sound-given (fieldSize (2 * length es)) (equalPairs (h .model .lowest) (h .model .above)) tt
+    let p = sound-given (fieldSize (extentsLength (length es))) (equalPairs (h .model .lowest) (h .model .above)) tt
     (λ (s : Unit {0}). andThen (rowsChecked (h .model) (rowWidth es) (rowCount es) (rowsOffset (length es)) odds) (λ (t : Unit {0}). roomFor es room)) n e in
     let c = then-given (rowsChecked (h .model) (rowWidth es) (rowCount es) (rowsOffset (length es)) odds) (λ (t : Unit {0}). roomFor es room) n (p .1) in
     record { pairs = p .0; checked = c .1; size = room-given es room n (c .2) }
@@ -140,18 +103,22 @@ is-writable h odds room n w =
 pub record-back : (h : Head) (odds : List Float) (o : ℕ) → 0 < length (h .extents) → headRefusal (usesOf writing) h (length odds) 0 ≡ none
     → rowsChecked (h .model) (rowWidth (h .extents)) (rowCount (h .extents)) o odds ≡ given tt → Held h odds
     → recordOf (length (h .extents)) (recordBytes h odds) ≡ given (record { head = plainHead h; odds = odds })
-unfolding recordBytes
+unfolding recordBytes recordOf
 record-back h odds o axes passes checked held =
     let es = h .extents in
     let m = h .model in
+    let k = plainHead h .model in
     let all = tests-of-writing h (length odds) passes in
     let t = all .0 in
     let b = all .1 in
-    let rows = rows-back (plainHead h .model) (rowWidth es) (rowCount es) (fieldSize (2 * length es) + fieldSize 24 + fieldSize 4) o odds
-    (rows-by-ceiling (plainHead h .model) m refl (rowWidth es) (rowCount es) o odds ∙ checked)
-    (t .count ∙ rows-are-cells es axes) (held .each-odds) (row-narrow es (b .0)) in
+    let few = axes-few es b in
     simp append-assoc
-    (extents-field-back es (record { head = plainHead h; odds = odds }) _ (t .extents) (axes-few es b)
-    (extents-back es _ (length es) refl (extents-in-two-bytes es (b .0)))
-    (model-back (fieldSize (2 * length es)) es m (record { head = plainHead h; odds = odds }) _ (plain-bounded m (t .model)) (model-64 h odds held)
-    (frame-back (fieldSize (2 * length es) + fieldSize 24) es (plainHead h .model) (h .frame) odds _ (t .frame) (omega arith) rows)))
+    (field-back (extentsField (length es)) _ (extentBytes es) _ es 0 (extent-bytes-length es) (omega arith)
+    (extents-back es _ (length es) refl (extents-in-two-bytes es (b .0))) (t .extents)
+    ∙ field-back modelField _ (modelBytes m) _ k _ (float-bytes-length (modelFloats m)) (omega arith)
+    (ap modelIn (floats-back (modelFloats m) _ 3 refl (model-64 h odds held))) (plain-bounded m (t .model))
+    ∙ field-back frameField _ (littleEndian wordSize (h .frame)) _ (h .frame) _ (little-endian-length wordSize (h .frame)) (omega arith)
+    (little-endian-back wordSize (h .frame) _ (omega arith)) (t .frame)
+    ∙ rows-back k (rowWidth es) (rowCount es) _ o odds (field endTag []) _ (rows-by-ceiling k m refl (rowWidth es) (rowCount es) o odds ∙ checked)
+    (t .count ∙ rows-are-cells es axes) (held .each-odds) (row-narrow es (b .0))
+    ∙ end-back (record { head = plainHead h; odds = odds }) _)

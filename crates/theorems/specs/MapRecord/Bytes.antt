@@ -7,7 +7,7 @@ use native.Mathlib.Nat.{pow-suc, pow-succ', mod-add-div, mod-eq-of-lt}
 use native.Mathlib.Nat.{div-eq-of-lt, zero-lt-suc, add-mul-mod-self-left, add-mul-div-left, div-lt-iff-lt-mul}
 use native.Mathlib.Omega.{arith}
 use lib.ListN.{length, take}
-use Rattle.rules.specs.MapRecord.{littleEndian, fromLittleEndian}
+use Rattle.rules.specs.Fields.{littleEndian, fromLittleEndian}
 use Rattle.theorems.specs.MapRecord.Words.{IsByte, AreBytes}
 use Rattle.theorems.specs.MapRecord.Each.{each-tail}
 

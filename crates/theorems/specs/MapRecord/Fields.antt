@@ -1,7 +1,7 @@
 -- One field of a record: written it is found again, with what follows it; and found, it is what writing its contents gives. And the steps of
 -- reading: a sound field goes on, a broken one refuses at its offset. Assumes nothing.
 use Prim.Native.Nat.{ℕ, suc, _+_, _≤_, _<_}
-use mathlib.Core.Bool.{Bool, true, false, _&&_}
+use mathlib.Core.Bool.{Bool, true, false}
 use mathlib.Core.List.{List, [], _∷_, _++_, append-assoc}
 use mathlib.Core.Logic.{_⊎_, inl, inr}
 use mathlib.Core.Path.{_≡_, refl, sym, ap, ap₂, _∙_}
@@ -11,7 +11,7 @@ use lib.ListN.{length, getD, take, drop, length-append, length-drop, take-append
 use lib.Seq.{drop-at, drop-drop, length-take-le}
 use borrow.Author.Tests.{leb-true, eqb-true, le-leb, eq-eqb}
 use Rattle.rules.specs.RefusalNumbers.{Refusal, Answer, given, refused, andThen, brokenRecord}
-use Rattle.rules.specs.MapRecord.{littleEndian, fromLittleEndian, field, fieldHere, fieldSize, soundOr}
+use Rattle.rules.specs.Fields.{littleEndian, fromLittleEndian, field, fieldHere, fieldSize, Field, contents, soundHere, Reading, soundOr, fieldThen}
 use Rattle.theorems.specs.MapRecord.Words.{IsByte, AreBytes, FieldBegins, first, behind}
 use Rattle.theorems.specs.MapRecord.Each.{each-drop, both, all-three}
 use Rattle.theorems.specs.MapRecord.Bytes.{little-endian-length, little-endian-back, little-endian-again}
@@ -116,12 +116,41 @@ pub record BrokenAt (bytes : List ℕ) (r : Refusal) : Type 0 where
 pub broken-here : (bytes : List ℕ) (o : ℕ) (rest : List ℕ) (r : Refusal) → Reached bytes o rest → brokenRecord o ≡ r → BrokenAt bytes r
 broken-here bytes o rest r p e = record { offset = o; is = e; begins = p .begins }
 
--- a field that is read refuses here, or leaves it to what follows
-pub step-broken : {A B : Type 0} (bytes : List ℕ) (o : ℕ) (rest : List ℕ) (tag n : ℕ) (sound : Bool) (a : A) (go : A → Answer B) (r : Refusal)
-    → Reached bytes o rest → andThen (soundOr o (fieldHere tag n rest && sound) a) go ≡ refused r
-    → (Reached bytes (o + fieldSize n) (drop (fieldSize n) rest) → go a ≡ refused r → BrokenAt bytes r) → BrokenAt bytes r
-step-broken bytes o rest tag n sound a go r p e later = by (sound-refused o (fieldHere tag n rest && sound) a go r e)
-  where
-    by : (brokenRecord o ≡ r) ⊎ ((fieldHere tag n rest && sound ≡ true) × (go a ≡ refused r)) → BrokenAt bytes r
-    by (inl q) = broken-here bytes o rest r p q
-    by (inr q) = later (reached-next bytes o rest tag n p (both (fieldHere tag n rest) sound (q .0) .0)) (q .1)
+-- ---- a field, then what follows it
+module _ {A B : Type 0} (f : Field A) (next : A → Reading B) where
+  -- written, with sound contents: reading goes on behind it
+  pub field-back : (bs rest : List ℕ) (a : A) (o : ℕ) → length bs ≡ f .size → f .size < 65_536 → f .means (bs ++ rest) ≡ a → f .sound a ≡ true
+      → fieldThen f next o (field (f .tag) bs ++ rest) ≡ next a (o + fieldSize (f .size)) rest
+  unfolding fieldThen
+  field-back bs rest a o many small is sound =
+      let here = field-found (f .tag) bs rest (f .size) many small in
+      let held : contents f (field (f .tag) bs ++ rest) ≡ a = ap (f .means) (field-contents (f .tag) bs rest) ∙ is in
+      rw (here, held, sound, field-after (f .tag) bs rest (f .size) many) refl
+
+  -- given at the end: it was found, its contents are sound, and what follows was given
+  pub record Passed (o : ℕ) (rest : List ℕ) (b : B) : Type 0 where
+    pub is-found : Found (f .tag) (f .size) rest
+    pub is-sound : f .sound (contents f rest) ≡ true
+    pub after : next (contents f rest) (o + fieldSize (f .size)) (drop (fieldSize (f .size)) rest) ≡ given b
+
+  pub field-given : (o : ℕ) (rest : List ℕ) (b : B) → fieldThen f next o rest ≡ given b → Passed o rest b
+  unfolding fieldThen
+  field-given o rest b e =
+      let s = sound-given o (soundHere f rest) (contents f rest) (λ a. next a (o + fieldSize (f .size)) (drop (fieldSize (f .size)) rest)) b e in
+      let t = both (fieldHere (f .tag) (f .size) rest) (f .sound (contents f rest)) (s .0) in
+      record { is-found = found (f .tag) (f .size) rest (t .0); is-sound = t .1; after = s .1 }
+
+  -- refused: here, or by what follows
+  pub field-broken : (bytes : List ℕ) (o : ℕ) (rest : List ℕ) (r : Refusal) → Reached bytes o rest → fieldThen f next o rest ≡ refused r
+      → (Reached bytes (o + fieldSize (f .size)) (drop (fieldSize (f .size)) rest)
+      → next (contents f rest) (o + fieldSize (f .size)) (drop (fieldSize (f .size)) rest) ≡ refused r → BrokenAt bytes r)
+      → BrokenAt bytes r
+  unfolding fieldThen
+  field-broken bytes o rest r p e later =
+      by (sound-refused o (soundHere f rest) (contents f rest) (λ a. next a (o + fieldSize (f .size)) (drop (fieldSize (f .size)) rest)) r e)
+    where
+      by : (brokenRecord o ≡ r)
+          ⊎ ((soundHere f rest ≡ true) × (next (contents f rest) (o + fieldSize (f .size)) (drop (fieldSize (f .size)) rest) ≡ refused r)) → BrokenAt bytes r
+      by (inl q) = broken-here bytes o rest r p q
+      by (inr q) =
+          later (reached-next bytes o rest (f .tag) (f .size) p (both (fieldHere (f .tag) (f .size) rest) (f .sound (contents f rest)) (q .0) .0)) (q .1)

@@ -14,8 +14,9 @@ use Rattle.rules.specs.RefusalNumbers.Entries.{headRefusal, usesOf, writing, fi
 use Rattle.rules.specs.TheGridAndItsBounds.{Model, plainModel, Head, cells, allAtLeast, allAtMost, fitsCapacity, extentsInBounds, bounded, floor, onePerCell}
 use Rattle.rules.specs.TheGridAndItsBounds.{Pair, pairBounded, allPairs, rising, cutsBelow, cutsInBounds, lastExtent, layerOf}
 use Rattle.rules.specs.MarksAndFrames.{openFrame}
-use Rattle.rules.specs.MapRecord.{littleEndian, fromLittleEndian, field, fieldHere, extentBytes, extentsIn, floatBytes, floatsIn, rowCount, rowsBytes}
-use Rattle.rules.specs.MapRecord.{recordBytes, rowsOffset, oddsInBounds, endIn, rowsIn, frameIn, modelFrom, recordOf}
+use Rattle.rules.specs.Fields.{littleEndian, fromLittleEndian, field, fieldHere, floatBytes, floatsIn, fieldThen, rowsThen, nothingFollows, rowsOf, rowsTried}
+use Rattle.rules.specs.MapRecord.{extentBytes, extentsIn, rowCount, rowsBytes}
+use Rattle.rules.specs.MapRecord.{recordBytes, rowsOffset, oddsInBounds, joined, oddsThen, recordOf}
 use Rattle.rules.specs.MapRecord.{sameBits, samePair, equalPairs, pairsChecked, rowsChecked, recordSize, roomFor, writable}
 use Rattle.theorems.specs.WholeSample.{allFit}
 use Rattle.theorems.specs.MapRecord.Words.{Held}
@@ -63,7 +64,7 @@ unfolding littleEndian fromLittleEndian field fieldHere extentBytes extentsIn fl
 openedRecord = 0
 
 openedReading : ℕ
-unfolding oddsInBounds endIn rowsIn frameIn modelFrom recordOf rowsOffset sameBits samePair equalPairs pairsChecked rowsChecked recordSize roomFor writable
+unfolding oddsInBounds fieldThen rowsThen nothingFollows rowsOf rowsTried joined oddsThen recordOf rowsOffset sameBits samePair equalPairs pairsChecked rowsChecked recordSize roomFor writable
 openedReading = 0
 
 openedHead : ℕ

@@ -11,7 +11,8 @@ use lib.ListN.{length, take, drop, length-append, length-drop}
 use lib.Seq.{drop-at, take-add}
 use lib.Ieee.{Float, nan, inf, fin, binary64, fits, isNan, toBits, ofBits}
 use lib.Ieee.Bits.{ofBits-toBits, toBits-lt, ofBits-fits, toBits-ofBits, is-true}
-use Rattle.rules.specs.MapRecord.{littleEndian, fromLittleEndian, extentBytes, extentsIn, floatBytes, floatsIn}
+use Rattle.rules.specs.Fields.{littleEndian, fromLittleEndian, floatBytes, floatsIn}
+use Rattle.rules.specs.MapRecord.{extentBytes, extentsIn}
 use Rattle.theorems.specs.WholeSample.{allFit}
 use Rattle.theorems.specs.MapRecord.Words.{Each, IsByte, AreBytes, Is64, Are64, NotNan, NoNan}
 use Rattle.theorems.specs.MapRecord.Each.{each-nil, each-tail, each-cons, each-drop, both}

@@ -11,7 +11,8 @@ use lib.Ieee.{Float, nan, binary64, fits}
 use Rattle.rules.specs.RefusalNumbers.{given, refused, brokenRecord}
 use Rattle.rules.specs.RefusalNumbers.Entries.{headRefusal, usesOf, writing, Outcome, readRecordEntry}
 use Rattle.rules.specs.TheGridAndItsBounds.{Band, Head, Grid, plainModel, cells, layerOf}
-use Rattle.rules.specs.MapRecord.{Stored, fromLittleEndian, fieldSize, recordOf, anyRecordOf, recordSize, writable, withCuts}
+use Rattle.rules.specs.Fields.{fromLittleEndian, fieldSize}
+use Rattle.rules.specs.MapRecord.{Stored, recordOf, anyRecordOf, recordSize, writable, withCuts}
 
 -- a fact of each element of a list, by its place
 abbrev pub Each : {A : Type 0} → (A → Type 0) → A → List A → Type 0

@@ -10,7 +10,7 @@ use lib.Seq.{drop-drop, drop-cons, getD-drop, take-add}
 use borrow.Author.Tests.{eqb-true, ltb-true}
 use Rattle.rules.specs.RefusalNumbers.{Answer, given, andThen}
 use Rattle.rules.specs.OneBeam.{Beam}
-use Rattle.rules.specs.MapRecord.{littleEndian, fromLittleEndian, field, fieldHere, fieldSize}
+use Rattle.rules.specs.Fields.{littleEndian, fromLittleEndian, field, fieldHere, fieldSize}
 use Rattle.rules.specs.SweepFile.{Sweep, sweepOr, beamLength, beamBytes, beamsBytes, sweepBytes, beamHere, beamIn, sweepEndIn, beamsIn, stationIn, sweepOf}
 use Rattle.theorems.specs.MapRecord.Words.{IsByte, AreBytes}
 use Rattle.theorems.specs.MapRecord.Each.{each-drop, both}

@@ -9,7 +9,7 @@ use lib.Dec.{eqb, ltb}
 use lib.ListN.{length, getD, drop}
 use Rattle.rules.specs.RefusalNumbers.{Refusal, Answer, given, refused, andThen, brokenSweep}
 use Rattle.rules.specs.OneBeam.{Beam}
-use Rattle.rules.specs.MapRecord.{fromLittleEndian, fieldHere, fieldSize}
+use Rattle.rules.specs.Fields.{fromLittleEndian, fieldHere, fieldSize}
 use Rattle.rules.specs.SweepFile.{Sweep, sweepOr, beamLength, beamHere, beamIn, sweepEndIn, beamsIn, stationIn, sweepOf}
 use Rattle.theorems.specs.MapRecord.Words.{FieldBegins, first}
 use Rattle.theorems.specs.MapRecord.Each.{both}

@@ -9,7 +9,7 @@ use lib.Ieee.{nan, inf, toBits, ofBits}
 use Rattle.rules.specs.Floats.{halfF}
 use Rattle.rules.specs.RefusalNumbers.{given, refused, brokenSweep}
 use Rattle.rules.specs.OneBeam.{Beam}
-use Rattle.rules.specs.MapRecord.{littleEndian, fromLittleEndian, field, fieldHere, floatBytes, floatsIn}
+use Rattle.rules.specs.Fields.{littleEndian, fromLittleEndian, field, fieldHere, floatBytes, floatsIn}
 use Rattle.rules.specs.SweepFile.{Sweep, beamBytes, beamsBytes, sweepBytes, beamHere, beamIn, sweepEndIn, beamsIn, stationIn, sweepOf}
 
 -- from (0.5, NaN) to (-infinity, 0.5), a Hit

@@ -10,7 +10,7 @@ use lib.Seq.{drop-at, drop-drop, getD-drop, getD-at}
 use borrow.Author.Tests.{eq-eqb}
 use Rattle.rules.specs.RefusalNumbers.{given}
 use Rattle.rules.specs.OneBeam.{Beam}
-use Rattle.rules.specs.MapRecord.{littleEndian, fromLittleEndian, field, fieldHere, fieldSize, floatBytes}
+use Rattle.rules.specs.Fields.{littleEndian, fromLittleEndian, field, fieldHere, fieldSize, floatBytes}
 use Rattle.rules.specs.SweepFile.{Sweep, beamLength, beamBytes, beamsBytes, sweepBytes, beamHere, beamIn, sweepEndIn, beamsIn, stationIn, sweepOf, mostBeams}
 use Rattle.theorems.specs.MapRecord.Bytes.{little-endian-length, little-endian-back}
 use Rattle.theorems.specs.MapRecord.Numbers.{float-bytes-length, floats-back}

@@ -3,7 +3,7 @@ use mathlib.Core.Path.{ap, _∙_}
 use denote.Ref.{now}
 use lib.Seq.{sets}
 use borrow.Author.Needs.{needs}
-use Rattle.rules.specs.MapRecord.{littleEndian}
+use Rattle.rules.specs.Fields.{littleEndian}
 use Rattle.fields.proofs.writing.put_f64.Statement.{statement}
 use Rattle.fields.proofs.writing.put_f64.Tie as tie
 

@@ -5,7 +5,7 @@ use native.Mathlib.Omega.{arith}
 use denote.Ref.{now}
 use lib.Seq.{sets}
 use borrow.Author.Needs.{needs}
-use Rattle.rules.specs.MapRecord.{littleEndian}
+use Rattle.rules.specs.Fields.{littleEndian}
 use Rattle.fields.proofs.Bytes.{length-little, little-split}
 use Rattle.fields.proofs.Stores.{two-runs}
 use Rattle.fields.proofs.writing.put_u64.Statement.{statement}

@@ -1,7 +1,5 @@
 -- The record is sound; the lists decide, and then they are filled.
-use Prim.Native.Nat.{_*_}
 use mathlib.Core.List.{[]}
-use mathlib.Core.Path.{sym}
 use native.Mathlib.Nat.{mul-comm}
 use native.Mathlib.Omega.{arith}
 use denote.Ref.{now}
@@ -13,8 +11,8 @@ use Rattle.record_reader.proofs.Taken.{head-fits, rows-fit, no-cuts, od
 use Rattle.record_reader.proofs.reading.read_sound2.Statement.{statement}
 use Rattle.record_reader.proofs.reading.read_sound2.Tie as tie
 
-extents-at2-requires : tie.Need-extents-at2-requires
-extents-at2-requires c κs =
+extents-field-at2-requires : tie.Need-extents-field-at2-requires
+extents-field-at2-requires c κs =
     let fits = head-fits 2 (now (c .before .before .before .args .bytes)) (sound 2 (now (c .before .before .before .args .bytes)) (c .before .before .before .pre)) in
     omega arith
 
@@ -22,9 +20,9 @@ mul-if1 : tie.Need-mul-if1
 mul-if1 c =
     let a = c .before .before .before .before .args in
     let b = now (a .bytes) in
-    let e = c .extents-at2 .result in
+    let e = c .extents-field-at2 .result in
     let s = sound 2 b (c .before .before .before .before .pre) in
-    let shape = shape2 _ e (c .extents-at2 .ensures) in
+    let shape = shape2 _ e (c .extents-field-at2 .ensures) in
     let most = few _ (e .x) (e .y) shape (s .extents) in
     omega arith
 
@@ -32,9 +30,9 @@ returns : tie.Need-returns
 returns c =
     let a = c .before .before .before .before .before .args in
     let b = now (a .bytes) in
-    let e = c .before .extents-at2 .result in
+    let e = c .before .extents-field-at2 .result in
     let s = sound 2 b (c .before .before .before .before .before .pre) in
-    let shape = shape2 _ e (c .before .extents-at2 .ensures) in
+    let shape = shape2 _ e (c .before .extents-field-at2 .ensures) in
     odds-wrong 2 b s (e .x) (e .y) shape [] (now (a .odds)) (now (a .stamps)) (no-cuts 2 b) (c .if1 .taken)
 
 mul-if2 : tie.Need-mul-if2
@@ -44,18 +42,18 @@ returns-2 : tie.Need-returns-2
 returns-2 c =
     let a = c .before .before .before .before .before .before .args in
     let b = now (a .bytes) in
-    let e = c .before .before .extents-at2 .result in
+    let e = c .before .before .extents-field-at2 .result in
     let s = sound 2 b (c .before .before .before .before .before .before .pre) in
-    let shape = shape2 _ e (c .before .before .extents-at2 .ensures) in
+    let shape = shape2 _ e (c .before .before .extents-field-at2 .ensures) in
     stamps-wrong 2 b s (e .x) (e .y) shape [] (now (a .odds)) (now (a .stamps)) (no-cuts 2 b) (c .before .if1 .left) (c .if2 .taken)
 
 read-rows-requires : tie.Need-read-rows-requires
 read-rows-requires c κs =
     let a = c .before .before .before .before .before .before .before .args in
     let b = now (a .bytes) in
-    let e = c .before .before .before .extents-at2 .result in
+    let e = c .before .before .before .extents-field-at2 .result in
     let s = sound 2 b (c .before .before .before .before .before .before .before .pre) in
-    let shape = shape2 _ e (c .before .before .before .extents-at2 .ensures) in
+    let shape = shape2 _ e (c .before .before .before .extents-field-at2 .ensures) in
     let swap = mul-comm (e .x) (e .y) in
     let one = c .before .before .if1 .left in
     (rows-fit 2 b s (e .x) (e .y) shape, omega arith)
@@ -63,14 +61,14 @@ read-rows-requires c κs =
 clear-stamps-requires : tie.Need-clear-stamps-requires
 clear-stamps-requires c κs = search needs
 
-model-at-requires : tie.Need-model-at-requires
-model-at-requires c κs =
+model-field-at-requires : tie.Need-model-field-at-requires
+model-field-at-requires c κs =
     let b = now (c .before .before .before .before .before .before .before .before .before .before .before .before .before .before .args .bytes) in
     let fits = head-fits 2 b (sound 2 b (c .before .before .before .before .before .before .before .before .before .before .before .before .before .before .pre)) in
     omega arith
 
-u32-at-requires : tie.Need-u32-at-requires
-u32-at-requires c κs =
+frame-field-at-requires : tie.Need-frame-field-at-requires
+frame-field-at-requires c κs =
     let b = now (c .before .before .before .before .before .before .before .before .before .before .before .before .before .before .before .args .bytes) in
     let fits = head-fits 2 b (sound 2 b (c .before .before .before .before .before .before .before .before .before .before .before .before .before .before .before .pre)) in
     omega arith
@@ -85,13 +83,13 @@ returns-3 : tie.Need-returns-3
 returns-3 c =
     let a = c .before .before .before .before .before .before .before .before .before .before .before .before .before .before .before .before .args in
     let b = now (a .bytes) in
-    let e = c .before .before .before .before .before .before .before .before .before .before .before .before .extents-at2 .result in
+    let e = c .before .before .before .before .before .before .before .before .before .before .before .before .extents-field-at2 .result in
     let s = sound 2 b (c .before .before .before .before .before .before .before .before .before .before .before .before .before .before .before .before .pre) in
-    let shape = shape2 _ e (c .before .before .before .before .before .before .before .before .before .before .before .before .extents-at2 .ensures) in
-    all-read 2 b s (e .x) (e .y) shape [] (now (a .odds)) (now (a .stamps)) (no-cuts 2 b) _ (modelOf (c .before .model-at .result)) _ _ _
+    let shape = shape2 _ e (c .before .before .before .before .before .before .before .before .before .before .before .before .extents-field-at2 .ensures) in
+    all-read 2 b s (e .x) (e .y) shape [] (now (a .odds)) (now (a .stamps)) (no-cuts 2 b) _ (modelOf (c .before .model-field-at .result)) _ _ _
     (c .before .before .before .before .before .before .before .before .before .before .before .if1 .left) (c .before .before .before .before .before .before .before .before .before .before .if2 .left)
-    (c .before .before .before .before .before .before .before .before .before .before .before .before .extents-at2 .ensures)
-    (c .before .model-at .ensures) (c .u32-at .ensures)
+    (c .before .before .before .before .before .before .before .before .before .before .before .before .extents-field-at2 .ensures)
+    (c .before .model-field-at .ensures) (c .frame-field-at .ensures)
     (c .before .before .before .before .before .before .before .before .read-rows .ensures)
     (c .before .before .before .before .clear-stamps .ensures)
 
@@ -99,15 +97,15 @@ pub read-sound2-spec : {M : Type 1} → statement M
 read-sound2-spec =
     tie.close
     (tie.spec
-    extents-at2-requires
+    extents-field-at2-requires
     mul-if1
     returns
     mul-if2
     returns-2
     read-rows-requires
     clear-stamps-requires
-    model-at-requires
-    u32-at-requires
+    model-field-at-requires
+    frame-field-at-requires
     same-length
     same-length-2
     returns-3)

@@ -1,13 +1,13 @@
 -- What is left to store completes the row.
-use Prim.Native.Nat.{_+_, _-_, _*_, _≤_, _<_}
+use Prim.Native.Nat.{_+_, _-_, _*_, _≤_}
 use mathlib.Core.Path.{_≡_, refl, sym, ap, _∙_}
 use native.Mathlib.Omega.{arith}
 use native.Mathlib.Numerals.{add-one}
 use denote.Ref.{now}
-use lib.ListN.{length, length-set, drop, set}
+use lib.ListN.{length, length-set, drop}
 use lib.Seq.{sets}
 use borrow.Author.Needs.{needs}
-use Rattle.rules.specs.MapRecord.{floatsIn}
+use Rattle.rules.specs.Fields.{floatsIn}
 use Rattle.rows.proofs.Odds.{floats-step}
 use Rattle.rows.proofs.reading.read_row.Statement.{statement}
 use Rattle.rows.proofs.reading.read_row.Tie as tie

@@ -1,10 +1,11 @@
 -- The floats passed are within the bounds, so what is left decides.
-use Prim.Native.Nat.{_+_, _-_, _*_, _≤_, _<_}
+use Prim.Native.Nat.{_+_, _-_, _*_, _≤_}
 use mathlib.Core.Path.{_≡_, refl, sym, ap, _∙_}
 use native.Mathlib.Omega.{arith}
 use denote.Ref.{now}
 use lib.ListN.{length, drop}
-use Rattle.rules.specs.MapRecord.{floatsIn, oddsInBounds}
+use Rattle.rules.specs.Fields.{floatsIn}
+use Rattle.rules.specs.MapRecord.{oddsInBounds}
 use Rattle.types.specs.Models.{modelOf}
 use Rattle.rows.proofs.Odds.{floats-step, bounds-broken, bounds-kept}
 use Rattle.rows.proofs.reading.row_in_bounds.Statement.{statement}
@@ -22,8 +23,8 @@ loop-holds c = (c .before .pre, refl)
 f64-at-requires : tie.Need-f64-at-requires Inv-loop μ-loop
 f64-at-requires c κs = omega arith
 
-within-requires : tie.Need-within-requires Inv-loop μ-loop
-within-requires c κs = tt
+from-floor-to-ceiling-requires : tie.Need-from-floor-to-ceiling-requires Inv-loop μ-loop
+from-floor-to-ceiling-requires c κs = tt
 
 add-here : tie.Need-add-here Inv-loop μ-loop
 add-here c = let good = c .before .before .before .before .before .before .good in omega arith
@@ -38,14 +39,14 @@ loop-again : tie.Need-loop-again Inv-loop μ-loop
 loop-again c =
     let a = c .before .before .before .before .before .before .args in
     let l = c .before .before .before .before .loop in
-    let off = rw (c .before .before .f64-at .ensures) at (sym (c .before .within .ensures) ∙ c .if1 .taken) in
+    let off = rw (c .before .before .f64-at .ensures) at (sym (c .before .from-floor-to-ceiling .ensures) ∙ c .if1 .taken) in
     (omega arith, l .inv .1 ∙ ap (oddsInBounds (modelOf (a .model))) (floats-step (l .left) (l .here) (now (a .bytes)) (c .before .before .before .loop-test .taken)) ∙ bounds-kept (modelOf (a .model)) _ _ off)
 
 returns : tie.Need-returns Inv-loop μ-loop
 returns c =
     let a = c .before .before .before .before .before .before .args in
     let l = c .before .before .before .before .loop in
-    let off = rw (c .before .before .f64-at .ensures) at (sym (c .before .within .ensures) ∙ c .if1 .left) in
+    let off = rw (c .before .before .f64-at .ensures) at (sym (c .before .from-floor-to-ceiling .ensures) ∙ c .if1 .left) in
     sym (l .inv .1 ∙ ap (oddsInBounds (modelOf (a .model))) (floats-step (l .left) (l .here) (now (a .bytes)) (c .before .before .before .loop-test .taken)) ∙ bounds-broken (modelOf (a .model)) _ _ off)
 
 returns-2 : tie.Need-returns-2 Inv-loop μ-loop
@@ -64,7 +65,7 @@ row-in-bounds-spec =
     μ-loop
     loop-holds
     f64-at-requires
-    within-requires
+    from-floor-to-ceiling-requires
     add-here
     sub-left
     loop-less

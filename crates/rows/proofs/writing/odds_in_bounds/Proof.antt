@@ -8,7 +8,7 @@ use borrow.Author.Needs.{needs}
 use Rattle.rules.specs.MapRecord.{oddsInBounds}
 use Rattle.types.specs.Models.{modelOf}
 use Rattle.rows.proofs.Odds.{bounds-broken, bounds-kept}
-use Rattle.rows.proofs.Written.{part-step}
+use Rattle.fields.proofs.Floats.{part-step}
 use Rattle.rows.proofs.writing.odds_in_bounds.Statement.{statement}
 use Rattle.rows.proofs.writing.odds_in_bounds.Tie as tie
 
@@ -21,14 +21,14 @@ abbrev μ-loop : tie.MeasureT-loop
 loop-holds : tie.Need-loop-holds Inv-loop μ-loop
 loop-holds c = (c .before .pre, refl)
 
-mul-within : tie.Need-mul-within Inv-loop μ-loop
-mul-within c = search needs
+mul-from-floor-to-ceiling : tie.Need-mul-from-floor-to-ceiling Inv-loop μ-loop
+mul-from-floor-to-ceiling c = search needs
 
-shared-slice-read-within : tie.Need-shared-slice-read-within Inv-loop μ-loop
-shared-slice-read-within c = omega arith
+shared-slice-read-from-floor-to-ceiling : tie.Need-shared-slice-read-from-floor-to-ceiling Inv-loop μ-loop
+shared-slice-read-from-floor-to-ceiling c = omega arith
 
-within-requires : tie.Need-within-requires Inv-loop μ-loop
-within-requires c κs = tt
+from-floor-to-ceiling-requires : tie.Need-from-floor-to-ceiling-requires Inv-loop μ-loop
+from-floor-to-ceiling-requires c κs = tt
 
 add-place : tie.Need-add-place Inv-loop μ-loop
 add-place c = let good = c .before .before .before .before .before .before .good in omega arith
@@ -45,7 +45,7 @@ loop-again c =
     let l = c .before .before .before .before .loop in (
       omega arith,
       l .inv .1 ∙ ap (oddsInBounds (modelOf (a .model))) (part-step (l .left) (l .place) (now (a .odds)) (c .before .before .before .loop-test .taken) (l .inv .0))
-          ∙ bounds-kept (modelOf (a .model)) _ _ (sym (c .before .within .ensures) ∙ c .if1 .taken),
+          ∙ bounds-kept (modelOf (a .model)) _ _ (sym (c .before .from-floor-to-ceiling .ensures) ∙ c .if1 .taken),
     )
 
 returns : tie.Need-returns Inv-loop μ-loop
@@ -53,7 +53,7 @@ returns c =
     let a = c .before .before .before .before .before .before .args in
     let l = c .before .before .before .before .loop in
     sym (l .inv .1 ∙ ap (oddsInBounds (modelOf (a .model))) (part-step (l .left) (l .place) (now (a .odds)) (c .before .before .before .loop-test .taken) (l .inv .0))
-    ∙ bounds-broken (modelOf (a .model)) _ _ (sym (c .before .within .ensures) ∙ c .if1 .left))
+    ∙ bounds-broken (modelOf (a .model)) _ _ (sym (c .before .from-floor-to-ceiling .ensures) ∙ c .if1 .left))
 
 returns-2 : tie.Need-returns-2 Inv-loop μ-loop
 unfolding oddsInBounds
@@ -70,9 +70,9 @@ odds-in-bounds-spec =
     Inv-loop
     μ-loop
     loop-holds
-    mul-within
-    shared-slice-read-within
-    within-requires
+    mul-from-floor-to-ceiling
+    shared-slice-read-from-floor-to-ceiling
+    from-floor-to-ceiling-requires
     add-place
     sub-left
     loop-less

@@ -4,17 +4,18 @@ use mathlib.Core.Path.{_≡_, refl, sym, ap, _∙_}
 use native.Mathlib.Omega.{arith}
 use denote.Ref.{now}
 use lib.ListN.{length, drop}
-use Rattle.rules.specs.MapRecord.{fieldSize, rowsChecked}
+use Rattle.rules.specs.Fields.{fieldSize, rowsTried}
+use Rattle.rules.specs.MapRecord.{rowLength, rowsChecked}
 use Rattle.types.specs.Models.{modelOf}
 use Rattle.rows.specs.Rows.{refusalIn}
-use Rattle.rows.proofs.Odds.{one-of}
+use Rattle.fields.proofs.Floats.{one-of}
 use Rattle.rows.proofs.Written.{checked-step}
 use Rattle.rows.proofs.writing.rows_writable.Statement.{statement}
 use Rattle.rows.proofs.writing.rows_writable.Tie as tie
 
 abbrev Inv-loop : tie.InvT-loop
 Inv-loop odds width count model at here₀ place₀ left₀ here place left =
-    (place + left * width ≤ length odds) × (here + left * fieldSize (8 * width) < 2 ^ 64)
+    (place + left * width ≤ length odds) × (here + left * fieldSize (rowLength width) < 2 ^ 64)
     × (refusalIn (rowsChecked (modelOf model) width count at odds) ≡ refusalIn (rowsChecked (modelOf model) width left here (drop place odds)))
 
 abbrev μ-loop : tie.MeasureT-loop
@@ -30,17 +31,17 @@ odds-in-bounds-requires c κs =
 
 mul-here : tie.Need-mul-here Inv-loop μ-loop
 mul-here c =
-    let one = one-of (c .before .before .before .loop .left) (fieldSize (8 * c .before .before .before .before .before .args .width)) (c .before .before .loop-test .taken) in
+    let one = one-of (c .before .before .before .loop .left) (fieldSize (rowLength (c .before .before .before .before .before .args .width))) (c .before .before .loop-test .taken) in
     omega arith
 
 add-here : tie.Need-add-here Inv-loop μ-loop
 add-here c =
-    let one = one-of (c .before .before .before .loop .left) (fieldSize (8 * c .before .before .before .before .before .args .width)) (c .before .before .loop-test .taken) in
+    let one = one-of (c .before .before .before .loop .left) (fieldSize (rowLength (c .before .before .before .before .before .args .width))) (c .before .before .loop-test .taken) in
     omega arith
 
 add-here-2 : tie.Need-add-here-2 Inv-loop μ-loop
 add-here-2 c =
-    let one = one-of (c .before .before .before .loop .left) (fieldSize (8 * c .before .before .before .before .before .args .width)) (c .before .before .loop-test .taken) in
+    let one = one-of (c .before .before .before .loop .left) (fieldSize (rowLength (c .before .before .before .before .before .args .width))) (c .before .before .loop-test .taken) in
     omega arith
 
 add-place : tie.Need-add-place Inv-loop μ-loop
@@ -59,7 +60,7 @@ loop-again c =
     let a = c .before .before .before .before .before .args in
     let l = c .before .before .before .loop in
     let more = c .before .before .loop-test .taken in
-    let one = one-of (l .left) (fieldSize (8 * a .width)) more in
+    let one = one-of (l .left) (fieldSize (rowLength (a .width))) more in
     let two = one-of (l .left) (a .width) more in (
       omega arith,
       omega arith,
@@ -67,19 +68,19 @@ loop-again c =
           ∙ rw (sym (c .before .odds-in-bounds .ensures) ∙ c .if1 .taken) refl,
     )
 
-broken-requires : tie.Need-broken-requires Inv-loop μ-loop
-broken-requires c κs = tt
+record-broken-requires : tie.Need-record-broken-requires Inv-loop μ-loop
+record-broken-requires c κs = tt
 
 returns : tie.Need-returns Inv-loop μ-loop
 returns c =
     let a = c .before .before .before .before .before .before .args in
     let l = c .before .before .before .before .loop in
-    c .broken .ensures
+    c .record-broken .ensures
     ∙ sym (l .inv .2 ∙ checked-step (a .width) (modelOf (a .model)) (l .left) (l .here) (l .place) (now (a .odds)) (c .before .before .before .loop-test .taken)
     ∙ rw (sym (c .before .before .odds-in-bounds .ensures) ∙ c .before .if1 .left) refl)
 
 returns-2 : tie.Need-returns-2 Inv-loop μ-loop
-unfolding rowsChecked
+unfolding rowsChecked rowsTried
 returns-2 c =
     let a = c .before .before .before .args in
     let l = c .before .loop in
@@ -101,6 +102,6 @@ rows-writable-spec =
     sub-left
     loop-less
     loop-again
-    broken-requires
+    record-broken-requires
     returns
     returns-2)

@@ -1,0 +1,60 @@
+-- The field first, then what it holds.
+use mathlib.Core.Path.{refl, sym, ap, _∙_}
+use native.Mathlib.Omega.{arith}
+use denote.Ref.{now}
+use lib.ListN.{drop}
+use borrow.Author.Needs.{needs}
+use Rattle.rules.specs.MapRecord.{extentsTag, extentsLength}
+use Rattle.checks.specs.Checking.{checkOf}
+use Rattle.fields.proofs.Bytes.{whole-at}
+use Rattle.record_reader.proofs.Sound.{field-sound, field-unsound}
+use Rattle.record_reader.proofs.parts.extents_sound2.Statement.{statement}
+use Rattle.record_reader.proofs.parts.extents_sound2.Tie as tie
+
+field-here-requires : tie.Need-field-here-requires
+field-here-requires c κs = search needs
+
+extents-field-at2-requires : tie.Need-extents-field-at2-requires
+extents-field-at2-requires c κs =
+    let a = c .before .before .before .args in
+    let w = whole-at extentsTag (extentsLength 2) (a .at) (now (a .bytes)) (sym (c .before .field-here .ensures) ∙ c .if1 .taken) in
+    omega arith
+
+extents-check2-requires : tie.Need-extents-check2-requires
+extents-check2-requires c κs = search needs
+
+enum-told : tie.Need-enum-told
+enum-told c = search needs
+
+enum-told-2 : tie.Need-enum-told-2
+enum-told-2 c = search needs
+
+returns : tie.Need-returns
+returns c =
+    let a = c .before .before .before .before .before .before .before .args in
+    let here = sym (c .before .before .before .before .before .field-here .ensures) ∙ c .before .before .before .before .if1 .taken in
+    field-sound 2 (drop (a .at) (now (a .bytes))) here _ (c .before .before .before .extents-field-at2 .ensures)
+    (ap checkOf (sym (c .enum-told .given .1)) ∙ c .before .before .extents-check2 .ensures)
+
+returns-2 : tie.Need-returns-2
+returns-2 c =
+    let a = c .before .before .before .before .before .before .before .args in
+    let here = sym (c .before .before .before .before .before .field-here .ensures) ∙ c .before .before .before .before .if1 .taken in
+    field-unsound 2 (drop (a .at) (now (a .bytes))) here _ (c .before .before .before .extents-field-at2 .ensures) _
+    (ap checkOf (sym (c .enum-told2 .given .1)) ∙ c .before .before .extents-check2 .ensures)
+
+returns-3 : tie.Need-returns-3
+returns-3 c = rw (sym (c .before .field-here .ensures) ∙ c .if1 .left) refl
+
+pub extents-sound2-spec : {M : Type 1} → statement M
+extents-sound2-spec =
+    tie.close
+    (tie.spec
+    field-here-requires
+    extents-field-at2-requires
+    extents-check2-requires
+    enum-told
+    enum-told-2
+    returns
+    returns-2
+    returns-3)

@@ -1,0 +1,22 @@
+-- Four bytes behind the field's head.
+use mathlib.Core.Path.{sym, ap, _∙_}
+use denote.Ref.{now}
+use lib.Seq.{drop-drop}
+use borrow.Author.Needs.{needs}
+use Rattle.rules.specs.Fields.{fromLittleEndian, wordSize, headSize}
+use Rattle.record_reader.proofs.parts.frame_field_at.Statement.{statement}
+use Rattle.record_reader.proofs.parts.frame_field_at.Tie as tie
+
+add-u32-at : tie.Need-add-u32-at
+add-u32-at c = search needs
+
+u32-at-requires : tie.Need-u32-at-requires
+u32-at-requires c κs = search needs
+
+returns : tie.Need-returns
+returns c =
+    let a = c .before .before .args in
+    c .u32-at .ensures ∙ ap (fromLittleEndian wordSize) (sym (drop-drop headSize (a .at) (now (a .bytes))))
+
+pub frame-field-at-spec : {M : Type 1} → statement M
+frame-field-at-spec = tie.close (tie.spec add-u32-at u32-at-requires returns)
