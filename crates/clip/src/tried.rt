@@ -1,6 +1,6 @@
-// A beam, tried and clipped. Any coordinate that is not finite refuses it, and that is tried before clipping: an infinite endpoint would collapse the beam to
-// no length and hide the bad input. A beam that starts and ends on the map, as most do, is finite and is not cut: its fractions are 0 and 1, and no slab need be
-// worked out. Other beams go by the slabs, which stay the definition.
+// A beam, tried and clipped. Any coordinate that is not finite refuses it, and that is tried before clipping: a beam that
+// misses on another axis would pass in silence. A beam that starts and ends on the map, as most do, is finite and is not
+// cut: its fractions are 0 and 1, and no slab need be worked out. Other beams go by the slabs, which stay the definition.
 ghost use mathlib.Core.Path.{_≡_};
 ghost use mathlib.Core.Bool.{cond, true, _&&_};
 ghost use mathlib.Core.Option.{some, none};
