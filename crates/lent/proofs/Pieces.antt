@@ -1,7 +1,7 @@
 -- Pieces of a function's MIR that the generated modules give no name: the type of a local, what follows some statements, and the arms of a match.
 -- They say nothing of the crate. Definitions only.
 use Prim.Native.Nat.{ℕ, zero, suc}
-use mathlib.Core.List.{List}
+use mathlib.Core.List.{List, [], _∷_}
 use lib.ListN.{getD}
 use mir.Syntax.{Place, place, Opd, copy, int, intNeg, intBig, ptrConst, float, opdTrue, opdFalse, opdUnit, Rv, rvOpd, op1, op2, addrOf, aggregate, repeat}
 use mir.Syntax.{Body, skip, seq, assign, block, loop, cond, switch, exit, return, call, Arms, arm, default, noDefault, Ty, Local, local, valueLocal, tyUnit}
@@ -66,37 +66,60 @@ nth-arm (suc n) noDefault = skip
 abbrev pub armAt : ℕ → Body → Body
 armAt n b = nth-arm n (arms b)
 
--- the local that an assignment copies from
+-- what an assignment copies, writes or puts together: the local, the number and the operands
 abbrev ofPlace : Place → ℕ
 ofPlace (place k st) = k
 
-abbrev ofOpd : Opd → ℕ
-ofOpd (copy p) = ofPlace p
-ofOpd (int w n) = 0
-ofOpd (intNeg w n) = 0
-ofOpd (intBig w n) = 0
-ofOpd (ptrConst n) = 0
-ofOpd (float f n) = 0
-ofOpd opdTrue = 0
-ofOpd opdFalse = 0
-ofOpd opdUnit = 0
+abbrev opd : {X : Type 0} → X → (Place → X) → (ℕ → X) → Opd → X
+opd d from number (copy p) = from p
+opd d from number (int w n) = number n
+opd d from number (intNeg w n) = d
+opd d from number (intBig w n) = d
+opd d from number (ptrConst n) = d
+opd d from number (float f n) = d
+opd d from number opdTrue = d
+opd d from number opdFalse = d
+opd d from number opdUnit = d
 
-abbrev ofRv : Rv → ℕ
-ofRv (rvOpd x) = ofOpd x
-ofRv (op1 o x) = 0
-ofRv (op2 o x y) = 0
-ofRv (addrOf p) = 0
-ofRv (aggregate xs) = 0
-ofRv (repeat x n) = 0
+abbrev rv : {X : Type 0} → X → (Opd → X) → (Opd → X) → (List Opd → X) → Rv → X
+rv d one second parts (rvOpd x) = one x
+rv d one second parts (op2 o x y) = second y
+rv d one second parts (aggregate xs) = parts xs
+rv d one second parts (op1 o x) = d
+rv d one second parts (addrOf p) = d
+rv d one second parts (repeat x n) = d
+
+abbrev assigned : {X : Type 0} → X → (Rv → X) → Body → X
+assigned d k (assign p r) = k r
+assigned d k (seq a b) = d
+assigned d k skip = d
+assigned d k (block b) = d
+assigned d k (loop b) = d
+assigned d k (cond c a b) = d
+assigned d k (switch c as') = d
+assigned d k (exit n) = d
+assigned d k return = d
+assigned d k (call n xs p) = d
 
 abbrev pub sourceOf : Body → ℕ
-sourceOf (assign p r) = ofRv r
-sourceOf (seq a b) = 0
-sourceOf skip = 0
-sourceOf (block b) = 0
-sourceOf (loop b) = 0
-sourceOf (cond c a b) = 0
-sourceOf (switch c as') = 0
-sourceOf (exit n) = 0
-sourceOf return = 0
-sourceOf (call n xs p) = 0
+sourceOf = assigned 0 (rv 0 (opd 0 ofPlace (λ n. 0)) (λ y. 0) (λ xs. 0))
+
+abbrev pub numberOf : Body → ℕ
+numberOf = assigned 0 (rv 0 (opd 0 (λ p. 0) (λ n. n)) (opd 0 (λ p. 0) (λ n. n)) (λ xs. 0))
+
+abbrev pub partsOf : Body → List Opd
+partsOf = assigned [] (rv [] (λ x. []) (λ y. []) (λ xs. xs))
+
+-- ---- code that is written by hand
+abbrev pub var : ℕ → Place
+var k = place k []
+
+abbrev pub get : ℕ → Opd
+get k = copy (var k)
+
+abbrev pub set : ℕ → Rv → Body
+set k r = assign (var k) r
+
+abbrev pub seqs : List Body → Body → Body
+seqs [] b = b
+seqs (a ∷ as') b = seq a (seqs as' b)
