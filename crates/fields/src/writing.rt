@@ -49,7 +49,8 @@ pub fn put_f64(out: &mut [u8], at: usize, x: f64)
 // Floats of a list, from a place on. They are the list's, and there is room for them.
 pub fn put_floats(out: &mut [u8], at: usize, numbers: &[f64], from: usize, width: usize)
     requires { ⌜ at + floatSize * width ≤ length (now out) ⌝ ∗ ⌜ from + width ≤ length (now numbers) ⌝ }
-    ensures { λ _. ⌜ now (out .exit) ≡ sets (now (out .entry)) at (floatBytes (take width (drop from (now (numbers .entry))))) ⌝ }
+    ensures { λ _. ⌜ now (out .exit)
+        ≡ sets (now (out .entry)) at (floatBytes (take width (drop from (now (numbers .entry))))) ⌝ }
 {
     let mut here = at;
     let mut place = from;
@@ -62,7 +63,7 @@ pub fn put_floats(out: &mut [u8], at: usize, numbers: &[f64], from: usize, width
     }
 }
 
-// The tag and the length of a field; its bytes come after them. There is room for them, and the length has room in two bytes.
+// The tag and the length of a field; its bytes come after them. There is room for both, and two bytes hold the length.
 pub fn put_field(out: &mut [u8], at: usize, tag: u8, size: usize)
     requires { ⌜ at + headSize ≤ length (now out) ⌝ ∗ ⌜ size < 65_536 ⌝ }
     ensures { λ _. ⌜ now (out .exit) ≡ sets (now (out .entry)) at (tag ∷ littleEndian shortSize size) ⌝ }

@@ -1,4 +1,5 @@
-// Trying a record of edition 1, field by field, before anything is written: the arrangement of its fields, each at the offset where the one before it ends.
+// Trying a record of edition 1, field by field, before anything is written: the arrangement of its fields, each at the
+// offset where the one before it ends.
 ghost use mathlib.Core.Path.{_≡_};
 ghost use Prim.Native.Nat.{_≤_};
 ghost use lib.ListN.{drop};

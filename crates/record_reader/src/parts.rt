@@ -1,4 +1,5 @@
-// The fields of a map record, each wherever it stands: what it holds, and whether it is sound, that is whole and within its bounds.
+// The fields of a map record, each wherever it stands: what it holds, and whether it is sound, that is whole and within
+// its bounds.
 ghost use mathlib.Core.Path.{_≡_};
 ghost use Prim.Native.Nat.{_+_, _≤_};
 ghost use lib.ListN.{length, drop};

@@ -1,4 +1,5 @@
-// Edition 1's arrangement of a record's fields: how many bytes there are, whether they can be written, and the fields after the extents' one after another.
+// Edition 1's arrangement of a record's fields: how many bytes there are, whether they can be written, and the fields
+// after the extents' one after another.
 ghost use mathlib.Core.Path.{_≡_};
 ghost use Prim.Native.Nat.{_+_, _*_, _^_, _≤_, _<_};
 ghost use lib.ListN.{length};
@@ -25,7 +26,7 @@ use types::Frame;
 use types::Model;
 use types::Refusal;
 
-// The record's size, or why it cannot be written. The rows are the list's and short, and the record's bytes can be counted.
+// The record's size, or why it cannot be written. The rows are the list's and short, and the bytes can be counted.
 pub fn size_if_writable(
     odds: &[f64],
     width: usize,
@@ -61,8 +62,10 @@ pub fn put_rest(
     width: usize,
     count: usize,
 )
-    requires { ⌜ sizeOf (at + fieldSize modelLength + fieldSize frameLength) width count ≤ length (now out) ⌝ ∗ ⌜ count * width ≤ length (now odds) ⌝ ∗ ⌜ width ≤ mostExtent ⌝ }
-    ensures { λ _. ⌜ now (out .exit) ≡ sets (now (out .entry)) at (restBytes (modelOf model) (frame .0) width count (now (odds .entry))) ⌝ }
+    requires { ⌜ sizeOf (at + fieldSize modelLength + fieldSize frameLength) width count ≤ length (now out) ⌝
+        ∗ ⌜ count * width ≤ length (now odds) ⌝ ∗ ⌜ width ≤ mostExtent ⌝ }
+    ensures { λ _. ⌜ now (out .exit)
+        ≡ sets (now (out .entry)) at (restBytes (modelOf model) (frame .0) width count (now (odds .entry))) ⌝ }
 {
     let frame_at = at + MODEL_SIZE;
     let rows = frame_at + FRAME_SIZE;

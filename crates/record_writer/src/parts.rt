@@ -1,11 +1,13 @@
-// The fields of a map record, each written wherever it is to stand: those bytes change and no other. Whoever writes has seen that there is room.
+// The fields of a map record, each written wherever it is to stand: those bytes change and no other. Whoever writes has
+// seen that there is room.
 ghost use mathlib.Core.Path.{_≡_};
 ghost use mathlib.Core.List.{[]};
 ghost use Prim.Native.Nat.{_+_, _≤_};
 ghost use lib.ListN.{length};
 ghost use lib.Seq.{sets};
 ghost use Rattle.rules.specs.Fields.{field, fieldSize};
-ghost use Rattle.rules.specs.MapRecord.{extentsTag, extentsLength, extentBytes, modelLength, frameLength, endTag, endLength};
+ghost use Rattle.rules.specs.MapRecord.{extentsTag, extentsLength, extentBytes};
+ghost use Rattle.rules.specs.MapRecord.{modelLength, frameLength, endTag, endLength};
 ghost use Rattle.laws.specs.Checks.{AxesInBounds};
 ghost use Rattle.types.specs.Models.{modelOf};
 ghost use Rattle.types.specs.Points.{extents2, extents3};

@@ -94,7 +94,8 @@ fn read_row(bytes: &[u8], at: usize, width: usize, odds: &mut [f64], from: usize
 
 // All rows into the lent odds. The rows' fields stand whole, and the odds have the room.
 pub fn read_rows(bytes: &[u8], at: usize, width: usize, count: usize, odds: &mut [f64])
-    requires { ⌜ at + count * fieldSize (rowLength width) ≤ length (now bytes) ⌝ ∗ ⌜ count * width ≤ length (now odds) ⌝ }
+    requires { ⌜ at + count * fieldSize (rowLength width) ≤ length (now bytes) ⌝
+        ∗ ⌜ count * width ≤ length (now odds) ⌝ }
     ensures { λ _. ⌜ now (odds .exit) ≡ sets (now (odds .entry)) 0 (oddsAt width count (drop at (now (bytes .entry)))) ⌝ }
 {
     let mut here = at;

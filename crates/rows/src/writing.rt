@@ -59,8 +59,10 @@ pub fn rows_writable(odds: &[f64], width: usize, count: usize, model: Model, at:
 
 // A row's field. The row is one of the list's and short, and there is room for it.
 fn write_row(out: &mut [u8], at: usize, odds: &[f64], from: usize, width: usize)
-    requires { ⌜ at + fieldSize (rowLength width) ≤ length (now out) ⌝ ∗ ⌜ from + width ≤ length (now odds) ⌝ ∗ ⌜ width ≤ mostExtent ⌝ }
-    ensures { λ _. ⌜ now (out .exit) ≡ sets (now (out .entry)) at (field rowTag (floatBytes (take width (drop from (now (odds .entry)))))) ⌝ }
+    requires { ⌜ at + fieldSize (rowLength width) ≤ length (now out) ⌝ ∗ ⌜ from + width ≤ length (now odds) ⌝
+        ∗ ⌜ width ≤ mostExtent ⌝ }
+    ensures { λ _. ⌜ now (out .exit)
+        ≡ sets (now (out .entry)) at (field rowTag (floatBytes (take width (drop from (now (odds .entry)))))) ⌝ }
 {
     put_field(out, at, ROW_TAG, FLOAT_SIZE * width);
     put_floats(out, at + HEAD_SIZE, odds, from, width);
@@ -68,7 +70,8 @@ fn write_row(out: &mut [u8], at: usize, odds: &[f64], from: usize, width: usize)
 
 // All rows. They are the list's and short, and there is room for them.
 pub fn write_rows(out: &mut [u8], at: usize, odds: &[f64], width: usize, count: usize)
-    requires { ⌜ at + count * fieldSize (rowLength width) ≤ length (now out) ⌝ ∗ ⌜ count * width ≤ length (now odds) ⌝ ∗ ⌜ width ≤ mostExtent ⌝ }
+    requires { ⌜ at + count * fieldSize (rowLength width) ≤ length (now out) ⌝ ∗ ⌜ count * width ≤ length (now odds) ⌝
+        ∗ ⌜ width ≤ mostExtent ⌝ }
     ensures { λ _. ⌜ now (out .exit) ≡ sets (now (out .entry)) at (rowsBytes width count (now (odds .entry))) ⌝ }
 {
     let mut here = at;

@@ -10,8 +10,9 @@ use lib.Seq.{drop-drop, drop-cons, getD-drop, take-add}
 use borrow.Author.Tests.{eqb-true, ltb-true}
 use Rattle.rules.specs.RefusalNumbers.{Answer, given, andThen}
 use Rattle.rules.specs.OneBeam.{Beam}
-use Rattle.rules.specs.Fields.{littleEndian, fromLittleEndian, field, fieldHere, fieldSize}
-use Rattle.rules.specs.SweepFile.{Sweep, sweepOr, beamLength, beamBytes, beamsBytes, sweepBytes, beamHere, beamIn, sweepEndIn, beamsIn, stationIn, sweepOf}
+use Rattle.rules.specs.Fields.{littleEndian, fromLittleEndian, floatSize, headSize, fieldSize, field, fieldHere}
+use Rattle.rules.specs.SweepFile.{axesTag, axesLength, stationTag, stationLength, beamTag, pointsLength, beamLength, countTag, countLength, beamsOffset}
+use Rattle.rules.specs.SweepFile.{Sweep, sweepOr, beamBytes, beamsBytes, sweepBytes, beamHere, beamIn, sweepEndIn, beamsIn, stationIn, sweepOf}
 use Rattle.theorems.specs.MapRecord.Words.{IsByte, AreBytes}
 use Rattle.theorems.specs.MapRecord.Each.{each-drop, both}
 use Rattle.theorems.specs.MapRecord.Bytes.{little-endian-again}
@@ -29,60 +30,60 @@ take-one k ys h = ap (take 1) (drop-cons ys k 0 h)
 
 module _ (axes : ℕ) (rest : List ℕ) (bytes : AreBytes rest) where
   abbrev inside : List ℕ
-  inside = drop 3 rest
+  inside = drop headSize rest
 
-  beam-bytes-again : NoNanIn (beamIn axes rest) → fieldSize (beamLength axes) ≤ length rest → getD rest (3 + 16 * axes) 0 < 2
-      → beamBytes (beamIn axes rest) ≡ take (beamLength axes) (drop 3 rest)
+  beam-bytes-again : NoNanIn (beamIn axes rest) → fieldSize (beamLength axes) ≤ length rest → getD rest (headSize + pointsLength axes) 0 < 2
+      → beamBytes (beamIn axes rest) ≡ take (beamLength axes) (drop headSize rest)
   unfolding beamBytes beamIn
   beam-bytes-again n l byte =
-      let d = length-drop 3 rest in
-      let d′ = length-drop (3 + 8 * axes) rest in
+      let d = length-drop headSize rest in
+      let d′ = length-drop (headSize + floatSize * axes) rest in
       let in-order : 8 * axes + 8 * axes + 1 ≡ beamLength axes = omega arith in
       let at : 8 * axes + 8 * axes ≡ 16 * axes = omega arith in
-      let origin = floats-again axes inside (each-drop IsByte 0 3 rest bytes) (omega arith) (n .origin) in
-      let endpoint = floats-again axes (drop (3 + 8 * axes) rest) (each-drop IsByte 0 (3 + 8 * axes) rest bytes) (omega arith) (n .endpoint) in
-      let last : take 1 (drop (8 * axes + 8 * axes) inside) ≡ getD rest (3 + 16 * axes) 0 ∷ [] =
-      take-one (8 * axes + 8 * axes) inside (omega arith) ∙ ap (λ (x : ℕ). x ∷ []) (ap (λ (k : ℕ). getD inside k 0) at ∙ getD-drop 3 rest (16 * axes) 0) in
+      let origin = floats-again axes inside (each-drop IsByte 0 headSize rest bytes) (omega arith) (n .origin) in
+      let endpoint = floats-again axes (drop (headSize + floatSize * axes) rest) (each-drop IsByte 0 (headSize + floatSize * axes) rest bytes) (omega arith) (n .endpoint) in
+      let last : take 1 (drop (8 * axes + 8 * axes) inside) ≡ getD rest (headSize + pointsLength axes) 0 ∷ [] =
+      take-one (8 * axes + 8 * axes) inside (omega arith) ∙ ap (λ (x : ℕ). x ∷ []) (ap (λ (k : ℕ). getD inside k 0) at ∙ getD-drop headSize rest (16 * axes) 0) in
       let parts : take (8 * axes) inside ++ take (8 * axes) (drop (8 * axes) inside) ++ take 1 (drop (8 * axes + 8 * axes) inside) ≡ take (beamLength axes) inside =
       sym (ap (λ (k : ℕ). take k inside) (sym in-order) ∙ take-add (8 * axes + 8 * axes) 1 inside
       ∙ ap (λ (l : List ℕ). l ++ take 1 (drop (8 * axes + 8 * axes) inside)) (take-add (8 * axes) (8 * axes) inside)) in
-      let second : take (8 * axes) (drop (3 + 8 * axes) rest) ≡ take (8 * axes) (drop (8 * axes) inside) = ap (take (8 * axes)) (sym (drop-drop (8 * axes) 3 rest)) in
-      ap₂ (λ (x y : List ℕ). x ++ y) (ap₂ (λ (x y : List ℕ). x ++ y) origin (endpoint ∙ second)) (ap (λ (x : ℕ). x ∷ []) (byte-again (getD rest (3 + 16 * axes) 0) byte) ∙ sym last)
+      let second : take (8 * axes) (drop (headSize + floatSize * axes) rest) ≡ take (8 * axes) (drop (8 * axes) inside) = ap (take (8 * axes)) (sym (drop-drop (8 * axes) 3 rest)) in
+      ap₂ (λ (x y : List ℕ). x ++ y) (ap₂ (λ (x y : List ℕ). x ++ y) origin (endpoint ∙ second)) (ap (λ (x : ℕ). x ∷ []) (byte-again (getD rest (headSize + pointsLength axes) 0) byte) ∙ sym last)
       ∙ parts
 
-  pub beam-again : NoNanIn (beamIn axes rest) → beamHere axes rest ≡ true → field 3 (beamBytes (beamIn axes rest)) ++ drop (fieldSize (beamLength axes)) rest ≡ rest
+  pub beam-again : NoNanIn (beamIn axes rest) → beamHere axes rest ≡ true → field beamTag (beamBytes (beamIn axes rest)) ++ drop (fieldSize (beamLength axes)) rest ≡ rest
   unfolding beamHere
   beam-again n e =
-      let t = both (fieldHere 3 (beamLength axes) rest) (ltb (getD rest (3 + 16 * axes) 0) 2) e in
-      let f = found 3 (beamLength axes) rest (t .0) in
-      ap (λ (x : List ℕ). field 3 x ++ drop (fieldSize (beamLength axes)) rest) (beam-bytes-again n (f .whole) (ltb-true _ _ (t .1)))
-      ∙ field-again 3 (beamLength axes) rest bytes f
+      let t = both (fieldHere beamTag (beamLength axes) rest) (ltb (getD rest (headSize + pointsLength axes) 0) 2) e in
+      let f = found beamTag (beamLength axes) rest (t .0) in
+      ap (λ (x : List ℕ). field beamTag x ++ drop (fieldSize (beamLength axes)) rest) (beam-bytes-again n (f .whole) (ltb-true _ _ (t .1)))
+      ∙ field-again beamTag (beamLength axes) rest bytes f
 
 byte-is : (xs : List ℕ) → getD xs 0 0 ≡ fromLittleEndian 1 xs
 unfolding fromLittleEndian
 byte-is [] = refl
 byte-is (x ∷ xs) = omega arith
 
-one-byte : (bytes : List ℕ) → getD bytes 3 0 ≡ fromLittleEndian 1 (drop 3 bytes)
-one-byte bytes = sym (getD-drop 3 bytes 0 0) ∙ byte-is (drop 3 bytes)
+one-byte : (bytes : List ℕ) → getD bytes headSize 0 ≡ fromLittleEndian 1 (drop headSize bytes)
+one-byte bytes = sym (getD-drop headSize bytes 0 0) ∙ byte-is (drop headSize bytes)
 
 -- ---- the end
 end-again : (n offset : ℕ) (rest : List ℕ) (bs : List Beam) → AreBytes rest → sweepEndIn n offset rest ≡ given bs
-    → ([] ≡ bs) × (field 4 (littleEndian 4 n) ≡ rest)
+    → ([] ≡ bs) × (field countTag (littleEndian countLength n) ≡ rest)
 unfolding sweepEndIn
 end-again n offset rest bs bytes e =
-    let t = sweep-given offset (fieldHere 4 4 rest && eqb (fromLittleEndian 4 (drop 3 rest)) n) tt (λ (t : Unit {0}). sweepOr (offset + 7) (eqb (length rest) 7) []) bs e in
-    let u = both (fieldHere 4 4 rest) (eqb (fromLittleEndian 4 (drop 3 rest)) n) (t .0) in
-    let f = found 4 4 rest (u .0) in
-    let ends = last (eqb (length rest) 7) (t .1) in
+    let t = sweep-given offset (fieldHere countTag countLength rest && eqb (fromLittleEndian countLength (drop headSize rest)) n) tt (λ (t : Unit {0}). sweepOr (offset + fieldSize countLength) (eqb (length rest) (fieldSize countLength)) []) bs e in
+    let u = both (fieldHere countTag countLength rest) (eqb (fromLittleEndian countLength (drop headSize rest)) n) (t .0) in
+    let f = found countTag countLength rest (u .0) in
+    let ends = last (eqb (length rest) (fieldSize countLength)) (t .1) in
     let w = f .whole in
-    let number : littleEndian 4 n ≡ take 4 (drop 3 rest) =
-    ap (littleEndian 4) (sym (eqb-true _ _ (u .1))) ∙ little-endian-again 4 (drop 3 rest) (each-drop IsByte 0 3 rest bytes) (omega (arith, length-drop 3 rest)) in
+    let number : littleEndian 4 n ≡ take 4 (drop headSize rest) =
+    ap (littleEndian 4) (sym (eqb-true _ _ (u .1))) ∙ little-endian-again 4 (drop headSize rest) (each-drop IsByte 0 headSize rest bytes) (omega (arith, length-drop headSize rest)) in
     let size = eqb-true (length rest) 7 (ends .1) in
     let nothing : drop 7 rest ≡ [] = drop-of-length-le rest {i = 7} (omega arith) in
-    (ends .0, sym (append-nil (field 4 (littleEndian 4 n))) ∙ ap₂ (λ (x y : List ℕ). field 4 x ++ y) number (sym nothing) ∙ field-again 4 4 rest bytes f)
+    (ends .0, sym (append-nil (field countTag (littleEndian countLength n))) ∙ ap₂ (λ (x y : List ℕ). field countTag x ++ y) number (sym nothing) ∙ field-again countTag countLength rest bytes f)
   where
-    last : (b : Bool) → sweepOr {A = List Beam} (offset + 7) b [] ≡ given bs → ([] ≡ bs) × (b ≡ true)
+    last : (b : Bool) → sweepOr {A = List Beam} (offset + fieldSize countLength) b [] ≡ given bs → ([] ≡ bs) × (b ≡ true)
     last true h = (cc, refl)
     last false h = let z : _≡_ {A = ℕ} 0 1 = cc in absurd (omega arith)
 
@@ -92,22 +93,22 @@ module _ (axes : ℕ) where
   size = fieldSize (beamLength axes)
 
   abbrev Again : ℕ → List ℕ → List Beam → Type 0
-  Again found rest bs = AreBytes rest → Every NoNanIn bs → beamsBytes bs ++ field 4 (littleEndian 4 (found + length bs)) ≡ rest
+  Again found rest bs = AreBytes rest → Every NoNanIn bs → beamsBytes bs ++ field countTag (littleEndian countLength (found + length bs)) ≡ rest
 
   last-again : (found offset : ℕ) (rest : List ℕ) (bs : List Beam) → sweepEndIn found offset rest ≡ given bs → Again found rest bs
   unfolding beamsBytes
   last-again found offset rest bs e bytes n =
       let t = end-again found offset rest bs bytes e in
       let z : found + 0 ≡ found = omega arith in
-      subst (λ (cs : List Beam). beamsBytes cs ++ field 4 (littleEndian 4 (found + length cs)) ≡ rest) (t .0) (rw z (t .1))
+      subst (λ (cs : List Beam). beamsBytes cs ++ field countTag (littleEndian countLength (found + length cs)) ≡ rest) (t .0) (rw z (t .1))
 
   more-again : (found : ℕ) (rest : List ℕ) (cs : List Beam) → beamHere axes rest ≡ true → Again (suc found) (drop size rest) cs → Again found rest (beamIn axes rest ∷ cs)
   unfolding beamsBytes
   more-again found rest cs here next bytes n =
       let e : found + suc (length cs) ≡ suc found + length cs = omega arith in
-      let b : List ℕ = field 3 (beamBytes (beamIn axes rest)) in
+      let b : List ℕ = field beamTag (beamBytes (beamIn axes rest)) in
       rw e
-      (append-assoc b (beamsBytes cs) (field 4 (littleEndian 4 (suc found + length cs)))
+      (append-assoc b (beamsBytes cs) (field countTag (littleEndian countLength (suc found + length cs)))
       ∙ ap (λ (l : List ℕ). b ++ l) (next (each-drop IsByte 0 size rest bytes) (n .1)) ∙ beam-again axes rest bytes (n .0) here)
 
   on-again : (found : ℕ) (rest : List ℕ) (bs : List Beam) (next end : Answer (List Beam)) → ((cs : List Beam) → next ≡ given cs → Again (suc found) (drop size rest) cs)
@@ -127,36 +128,36 @@ module _ (axes : ℕ) where
       (λ cs q. beams-again most (suc found) (offset + size) (drop size rest) cs q) (λ q. last-again found offset rest bs q) (beamHere axes rest) refl e
 
   -- ---- the whole file
-  file-again : (bytes : List ℕ) (n : ℕ) (bs : List Beam) → AreBytes bytes → Every NoNanIn bs → Found 1 1 bytes → getD bytes 3 0 ≡ axes
-      → Found 2 2 (drop 4 bytes) → fromLittleEndian 2 (drop 3 (drop 4 bytes)) ≡ n → Again 0 (drop 5 (drop 4 bytes)) bs → sweepBytes axes n bs ≡ bytes
+  file-again : (bytes : List ℕ) (n : ℕ) (bs : List Beam) → AreBytes bytes → Every NoNanIn bs → Found axesTag axesLength bytes → getD bytes headSize 0 ≡ axes
+      → Found stationTag stationLength (drop (fieldSize axesLength) bytes) → fromLittleEndian stationLength (drop headSize (drop (fieldSize axesLength) bytes)) ≡ n → Again 0 (drop (fieldSize stationLength) (drop (fieldSize axesLength) bytes)) bs → sweepBytes axes n bs ≡ bytes
   unfolding sweepBytes
   file-again bytes n bs b h f₁ a f₂ s later =
-      let rest : List ℕ = drop 4 bytes in
+      let rest : List ℕ = drop (fieldSize axesLength) bytes in
       let b₁ = each-drop IsByte 0 4 bytes b in
       let b₂ = each-drop IsByte 0 5 rest b₁ in
       let i = f₁ .whole in
       let j = f₂ .whole in
       let z : 0 + length bs ≡ length bs = omega arith in
-      let beams : beamsBytes bs ++ field 4 (littleEndian 4 (length bs)) ≡ drop 5 rest = rw z at (later b₂ h) in
-      let station : littleEndian 2 n ≡ take 2 (drop 3 rest) =
-      ap (littleEndian 2) (sym s) ∙ little-endian-again 2 (drop 3 rest) (each-drop IsByte 0 3 rest b₁) (omega (arith, length-drop 3 rest)) in
-      let first : littleEndian 1 axes ≡ take 1 (drop 3 bytes) =
-      ap (littleEndian 1) (sym a ∙ one-byte bytes) ∙ little-endian-again 1 (drop 3 bytes) (each-drop IsByte 0 3 bytes b) (omega (arith, length-drop 3 bytes)) in
+      let beams : beamsBytes bs ++ field countTag (littleEndian countLength (length bs)) ≡ drop (fieldSize stationLength) rest = rw z at (later b₂ h) in
+      let station : littleEndian 2 n ≡ take 2 (drop headSize rest) =
+      ap (littleEndian 2) (sym s) ∙ little-endian-again 2 (drop headSize rest) (each-drop IsByte 0 headSize rest b₁) (omega (arith, length-drop headSize rest)) in
+      let first : littleEndian 1 axes ≡ take 1 (drop headSize bytes) =
+      ap (littleEndian 1) (sym a ∙ one-byte bytes) ∙ little-endian-again 1 (drop headSize bytes) (each-drop IsByte 0 headSize bytes b) (omega (arith, length-drop headSize bytes)) in
       simp append-assoc
-      (ap₂ (λ (x y : List ℕ). field 1 x ++ y) first
-      (ap₂ (λ (x y : List ℕ). field 2 x ++ y) station beams ∙ field-again 2 2 rest b₁ f₂)
-      ∙ field-again 1 1 bytes b f₁)
+      (ap₂ (λ (x y : List ℕ). field axesTag x ++ y) first
+      (ap₂ (λ (x y : List ℕ). field stationTag x ++ y) station beams ∙ field-again stationTag stationLength rest b₁ f₂)
+      ∙ field-again axesTag axesLength bytes b f₁)
 
   pub sweep-again : (bytes : List ℕ) (s : Sweep) → sweepOf axes bytes ≡ given s → AreBytes bytes → Every NoNanIn (s .beams) → sweepBytes axes (s .station) (s .beams) ≡ bytes
   unfolding sweepOf stationIn
   sweep-again bytes s e b h =
-      let rest : List ℕ = drop 4 bytes in
-      let x = sweep-given 0 (fieldHere 1 1 bytes && eqb (getD bytes 3 0) axes) tt (λ (t : Unit {0}). stationIn axes 4 rest) s e in
-      let u = both (fieldHere 1 1 bytes) (eqb (getD bytes 3 0) axes) (x .0) in
-      let go : ℕ → Answer Sweep = λ n. andThen (beamsIn axes (length (drop 5 rest)) 0 9 (drop 5 rest)) (λ bs. given (record { station = n; beams = bs })) in
-      let y = sweep-given 4 (fieldHere 2 2 rest) (fromLittleEndian 2 (drop 3 rest)) go s (x .1) in
-      let c = then-given (beamsIn axes (length (drop 5 rest)) 0 9 (drop 5 rest)) (λ bs. given (record { station = fromLittleEndian 2 (drop 3 rest); beams = bs })) s (y .1) in
-      let same : record { station = fromLittleEndian 2 (drop 3 rest); beams = c .0 } ≡ s = (let q = c .2 in cc) in
-      let later = beams-again (length (drop 5 rest)) 0 9 (drop 5 rest) (c .0) (c .1) in
+      let rest : List ℕ = drop (fieldSize axesLength) bytes in
+      let x = sweep-given 0 (fieldHere axesTag axesLength bytes && eqb (getD bytes headSize 0) axes) tt (λ (t : Unit {0}). stationIn axes (fieldSize axesLength) rest) s e in
+      let u = both (fieldHere axesTag axesLength bytes) (eqb (getD bytes headSize 0) axes) (x .0) in
+      let go : ℕ → Answer Sweep = λ n. andThen (beamsIn axes (length (drop (fieldSize stationLength) rest)) 0 beamsOffset (drop (fieldSize stationLength) rest)) (λ bs. given (record { station = n; beams = bs })) in
+      let y = sweep-given (fieldSize axesLength) (fieldHere stationTag stationLength rest) (fromLittleEndian stationLength (drop headSize rest)) go s (x .1) in
+      let c = then-given (beamsIn axes (length (drop (fieldSize stationLength) rest)) 0 beamsOffset (drop (fieldSize stationLength) rest)) (λ bs. given (record { station = fromLittleEndian stationLength (drop headSize rest); beams = bs })) s (y .1) in
+      let same : record { station = fromLittleEndian stationLength (drop headSize rest); beams = c .0 } ≡ s = (let q = c .2 in cc) in
+      let later = beams-again (length (drop (fieldSize stationLength) rest)) 0 beamsOffset (drop (fieldSize stationLength) rest) (c .0) (c .1) in
       subst (λ (t : Sweep). Every NoNanIn (t .beams) → sweepBytes axes (t .station) (t .beams) ≡ bytes) same
-      (λ n. file-again bytes (fromLittleEndian 2 (drop 3 rest)) (c .0) b n (found 1 1 bytes (u .0)) (eqb-true _ _ (u .1)) (found 2 2 rest (y .0)) refl later) h
+      (λ n. file-again bytes (fromLittleEndian stationLength (drop headSize rest)) (c .0) b n (found axesTag axesLength bytes (u .0)) (eqb-true _ _ (u .1)) (found stationTag stationLength rest (y .0)) refl later) h

@@ -1,5 +1,5 @@
 -- A sweep file that is refused: with number 12, at a place where a field begins. Assumes nothing.
-use Prim.Native.Nat.{ℕ, zero, suc, _+_, _*_}
+use Prim.Native.Nat.{ℕ, zero, suc, _+_}
 use mathlib.Core.Bool.{Bool, true, false, cond, _&&_}
 use mathlib.Core.List.{List, [], _∷_}
 use mathlib.Core.Logic.{_⊎_, inl, inr}
@@ -9,8 +9,9 @@ use lib.Dec.{eqb, ltb}
 use lib.ListN.{length, getD, drop}
 use Rattle.rules.specs.RefusalNumbers.{Refusal, Answer, given, refused, andThen, brokenSweep}
 use Rattle.rules.specs.OneBeam.{Beam}
-use Rattle.rules.specs.Fields.{fromLittleEndian, fieldHere, fieldSize}
-use Rattle.rules.specs.SweepFile.{Sweep, sweepOr, beamLength, beamHere, beamIn, sweepEndIn, beamsIn, stationIn, sweepOf}
+use Rattle.rules.specs.Fields.{fromLittleEndian, headSize, fieldSize, fieldHere}
+use Rattle.rules.specs.SweepFile.{axesTag, axesLength, stationTag, stationLength, beamTag, pointsLength, beamLength, countTag, countLength, beamsOffset}
+use Rattle.rules.specs.SweepFile.{Sweep, sweepOr, beamHere, beamIn, sweepEndIn, beamsIn, stationIn, sweepOf}
 use Rattle.theorems.specs.MapRecord.Words.{FieldBegins, first}
 use Rattle.theorems.specs.MapRecord.Each.{both}
 use Rattle.theorems.specs.MapRecord.Fields.{Reached, reached-next, then-refused}
@@ -38,13 +39,13 @@ step-broken bytes o rest sound a go r p e later = by (sweep-refused o sound a go
 end-broken : (bytes : List ℕ) (n offset : ℕ) (rest : List ℕ) (r : Refusal) → Reached bytes offset rest → sweepEndIn n offset rest ≡ refused r → BrokenAt bytes r
 unfolding sweepEndIn
 end-broken bytes n offset rest r p e =
-    step-broken bytes offset rest (fieldHere 4 4 rest && eqb (fromLittleEndian 4 (drop 3 rest)) n) tt
-    (λ (t : Unit {0}). sweepOr {A = List Beam} (offset + 7) (eqb (length rest) 7) []) r p e
-    (λ s q. last (eqb (length rest) 7) (reached-next bytes offset rest 4 4 p (both (fieldHere 4 4 rest) (eqb (fromLittleEndian 4 (drop 3 rest)) n) s .0)) q)
+    step-broken bytes offset rest (fieldHere countTag countLength rest && eqb (fromLittleEndian countLength (drop headSize rest)) n) tt
+    (λ (t : Unit {0}). sweepOr {A = List Beam} (offset + fieldSize countLength) (eqb (length rest) (fieldSize countLength)) []) r p e
+    (λ s q. last (eqb (length rest) (fieldSize countLength)) (reached-next bytes offset rest countTag countLength p (both (fieldHere countTag countLength rest) (eqb (fromLittleEndian countLength (drop headSize rest)) n) s .0)) q)
   where
-    last : (b : Bool) → Reached bytes (offset + 7) (drop 7 rest) → sweepOr {A = List Beam} (offset + 7) b [] ≡ refused r → BrokenAt bytes r
+    last : (b : Bool) → Reached bytes (offset + fieldSize countLength) (drop 7 rest) → sweepOr {A = List Beam} (offset + fieldSize countLength) b [] ≡ refused r → BrokenAt bytes r
     last true q h = let z : _≡_ {A = ℕ} 0 1 = cc in absurd (omega arith)
-    last false q h = record { offset = offset + 7; is = cc; begins = q .begins }
+    last false q h = record { offset = offset + fieldSize countLength; is = cc; begins = q .begins }
 
 module _ (axes : ℕ) (bytes : List ℕ) (r : Refusal) where
   abbrev size : ℕ
@@ -53,7 +54,7 @@ module _ (axes : ℕ) (bytes : List ℕ) (r : Refusal) where
   behind-beam : (offset : ℕ) (rest : List ℕ) → Reached bytes offset rest → beamHere axes rest ≡ true → Reached bytes (offset + size) (drop size rest)
   unfolding beamHere
   behind-beam offset rest p e =
-      reached-next bytes offset rest 3 (beamLength axes) p (both (fieldHere 3 (beamLength axes) rest) (ltb (getD rest (3 + 16 * axes) 0) 2) e .0)
+      reached-next bytes offset rest beamTag (beamLength axes) p (both (fieldHere beamTag (beamLength axes) rest) (ltb (getD rest (headSize + pointsLength axes) 0) 2) e .0)
 
   on-broken : (offset : ℕ) (rest : List ℕ) (next end : Answer (List Beam)) → Reached bytes offset rest
       → (Reached bytes (offset + size) (drop size rest) → next ≡ refused r → BrokenAt bytes r) → (end ≡ refused r → BrokenAt bytes r)
@@ -68,19 +69,19 @@ module _ (axes : ℕ) (bytes : List ℕ) (r : Refusal) where
       on-broken offset rest (beamsIn axes most (suc found) (offset + size) (drop size rest)) (sweepEndIn found offset rest) p
       (λ q h. beams-broken most (suc found) (offset + size) (drop size rest) q h) (λ h. end-broken bytes found offset rest r p h) (beamHere axes rest) refl e
 
-  station-broken : (rest : List ℕ) → Reached bytes 4 rest → stationIn axes 4 rest ≡ refused r → BrokenAt bytes r
+  station-broken : (rest : List ℕ) → Reached bytes 4 rest → stationIn axes (fieldSize axesLength) rest ≡ refused r → BrokenAt bytes r
   unfolding stationIn
   station-broken rest p e =
-      let after : List ℕ = drop 5 rest in
-      let station : ℕ = fromLittleEndian 2 (drop 3 rest) in
-      step-broken bytes 4 rest (fieldHere 2 2 rest) station (λ n. andThen (beamsIn axes (length after) 0 9 after) (λ bs. given (record { station = n; beams = bs }))) r p e
-      (λ s q. beams-broken (length after) 0 9 after (reached-next bytes 4 rest 2 2 p s)
-      (then-refused (beamsIn axes (length after) 0 9 after) (λ bs. record { station = station; beams = bs }) r q))
+      let after : List ℕ = drop (fieldSize stationLength) rest in
+      let station : ℕ = fromLittleEndian stationLength (drop headSize rest) in
+      step-broken bytes (fieldSize axesLength) rest (fieldHere stationTag stationLength rest) station (λ n. andThen (beamsIn axes (length after) 0 beamsOffset after) (λ bs. given (record { station = n; beams = bs }))) r p e
+      (λ s q. beams-broken (length after) 0 beamsOffset after (reached-next bytes 4 rest 2 2 p s)
+      (then-refused (beamsIn axes (length after) 0 beamsOffset after) (λ bs. record { station = station; beams = bs }) r q))
 
   pub sweep-broken : sweepOf axes bytes ≡ refused r → BrokenAt bytes r
   unfolding sweepOf
   sweep-broken e =
-      step-broken bytes 0 bytes (fieldHere 1 1 bytes && eqb (getD bytes 3 0) axes) tt (λ (t : Unit {0}). stationIn axes 4 (drop 4 bytes)) r
+      step-broken bytes 0 bytes (fieldHere axesTag axesLength bytes && eqb (getD bytes headSize 0) axes) tt (λ (t : Unit {0}). stationIn axes (fieldSize axesLength) (drop (fieldSize axesLength) bytes)) r
       (record { begins = first; is = refl }) e
-      (λ s q. station-broken (drop 4 bytes)
-      (reached-next bytes 0 bytes 1 1 (record { begins = first; is = refl }) (both (fieldHere 1 1 bytes) (eqb (getD bytes 3 0) axes) s .0)) q)
+      (λ s q. station-broken (drop (fieldSize axesLength) bytes)
+      (reached-next bytes 0 bytes axesTag axesLength (record { begins = first; is = refl }) (both (fieldHere axesTag axesLength bytes) (eqb (getD bytes headSize 0) axes) s .0)) q)

@@ -44,8 +44,8 @@ returns c =
     let a = c .before .before .before .before .before .before .before .args in
     let model = sym (c .before .before .before .before .before .model-sound .ensures) ∙ c .before .before .before .before .if1 .taken in
     let frame = sym (c .before .before .frame-sound .ensures) ∙ c .before .if2 .taken in
-    c .rows-and-end .ensures
-    ∙ sym (rows-next (a .width) (a .count) (a .at) (now (a .bytes)) (modelOf (c .before .before .before .model-field-at .result)) (c .before .before .before .model-field-at .ensures) model frame)
+    let read = c .before .before .before .model-field-at in
+    c .rows-and-end .ensures ∙ sym (rows-next (a .width) (a .count) (a .at) (now (a .bytes)) (modelOf (read .result)) (read .ensures) model frame)
 
 record-broken-requires : tie.Need-record-broken-requires
 record-broken-requires c κs = search needs

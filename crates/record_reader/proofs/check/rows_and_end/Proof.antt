@@ -46,13 +46,14 @@ end-check-requires c κs = search needs
 returns : tie.Need-returns
 returns c =
     let a = c .before .before .before .before .before .args in
-    rows-off (modelOf (a .model)) (a .width) (a .count) (a .at) (now (a .bytes)) _ (sym (ap checkOf (c .before .r .given .1)) ∙ c .before .before .before .rows-check .ensures)
+    let off = sym (ap checkOf (c .before .r .given .1)) ∙ c .before .before .before .rows-check .ensures in
+    rows-off (modelOf (a .model)) (a .width) (a .count) (a .at) (now (a .bytes)) _ off
 
 returns-2 : tie.Need-returns-2
 returns-2 c =
     let a = c .before .before .before .before .before .args in
-    c .end-check .ensures
-    ∙ end-next (modelOf (a .model)) (a .width) (a .count) (a .at) (now (a .bytes)) (sym (ap checkOf (c .before .enum-told .given .1)) ∙ c .before .before .before .rows-check .ensures)
+    let passed = sym (ap checkOf (c .before .enum-told .given .1)) ∙ c .before .before .before .rows-check .ensures in
+    c .end-check .ensures ∙ end-next (modelOf (a .model)) (a .width) (a .count) (a .at) (now (a .bytes)) passed
 
 pub rows-and-end-spec : {M : Type 1} → statement M
 rows-and-end-spec =
