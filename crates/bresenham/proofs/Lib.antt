@@ -1,2 +1,3 @@
 pub mod Injective
 pub mod Laws
+pub mod AxisLaws

@@ -1,7 +1,7 @@
 -- The test is the rule's own, and each way a call.
+use lib.Ieee.{binary64}
 use borrow.Author.Needs.{needs}
-use borrow.Author.Tests.{eq-eqb, ne-eqb}
-use Rattle.rules.specs.TheLine.{axisAfter}
+use Rattle.bresenham.proofs.AxisLaws.{as-primary, as-other}
 use Rattle.bresenham.proofs.axis.axis_after.Statement.{statement}
 use Rattle.bresenham.proofs.axis.axis_after.Tie as tie
 
@@ -9,15 +9,13 @@ primary-after-requires : tie.Need-primary-after-requires
 primary-after-requires c κs = search needs
 
 returns : tie.Need-returns
-unfolding axisAfter
-returns c = simp (eq-eqb _ _ (c .before .if1 .taken), c .primary-after .ensures)
+returns c = as-primary binary64 _ _ _ _ (c .before .if1 .taken) (c .primary-after .ensures)
 
 other-after-requires : tie.Need-other-after-requires
 other-after-requires c κs = search needs
 
 returns-2 : tie.Need-returns-2
-unfolding axisAfter
-returns-2 c = simp (ne-eqb _ _ (c .before .if1 .left), c .other-after .ensures)
+returns-2 c = as-other binary64 _ _ _ _ (c .before .if1 .left) (c .other-after .ensures)
 
 pub axis-after-spec : {M : Type 1} → statement M
 axis-after-spec = tie.close (tie.spec primary-after-requires returns other-after-requires returns-2)

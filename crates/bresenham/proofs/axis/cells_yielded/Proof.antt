@@ -1,8 +1,8 @@
 -- The call's count, at the code's one.
-use borrow.Author.Needs.{needs}
 use lib.Ieee.{binary64}
-use Rattle.rules.specs.TheLine.{cellsYielded}
+use borrow.Author.Needs.{needs}
 use Rattle.laws.specs.Literals.{one-is}
+use Rattle.bresenham.proofs.AxisLaws.{yielded}
 use Rattle.bresenham.proofs.axis.cells_yielded.Statement.{statement}
 use Rattle.bresenham.proofs.axis.cells_yielded.Tie as tie
 
@@ -10,8 +10,7 @@ count-of-requires : tie.Need-count-of-requires
 count-of-requires c κs = search needs
 
 returns : tie.Need-returns
-unfolding cellsYielded
-returns c = simp (c .count-of .ensures, one-is binary64)
+returns c = yielded binary64 _ (one-is binary64) (c .count-of .ensures)
 
 pub cells-yielded-spec : {M : Type 1} → statement M
 cells-yielded-spec = tie.close (tie.spec count-of-requires returns)
