@@ -6,7 +6,17 @@ use mathlib.Core.Path.{_≡_, ap₂, _∙_}
 use lib.Ieee.{Float, Format, div, sub, lt, le, eq}
 use Rattle.rules.specs.Floats.{zeroF, halfF, numberF}
 use Rattle.rules.specs.MarksAndFrames.{clamp}
-use Rattle.rules.specs.OneBeam.{Span, cutTo, slab, clampAxis}
+use Rattle.rules.specs.OneBeam.{Span, largerOf, smallerOf, cutTo, slab, clampAxis}
+
+-- a span cut to two fractions: a and b are what the code's calls answered
+module _ (near far : Float) (s : Span) {a b : Float} (p : a ≡ largerOf (s .entry) near) (q : b ≡ smallerOf (s .exit) far) where
+  pub cut-away : lt b a ≡ true → none ≡ cutTo near far s
+  unfolding cutTo
+  cut-away h = simp (← p, ← q, h)
+
+  pub cut-down : lt b a ≡ false → some (record { entry = a; exit = b }) ≡ cutTo near far s
+  unfolding cutTo
+  cut-down h = simp (← p, ← q, h)
 
 -- the two ends of a slab, exchanged or not
 exchanged : (b : Bool) (x y p q : Float) (s : Span) → p ≡ cond b y x → q ≡ cond b x y → cutTo p q s ≡ cond b (cutTo y x s) (cutTo x y s)

@@ -1,3 +1,4 @@
 pub mod Passages
 pub mod Crossing
 pub mod Trying
+pub mod ByAxis

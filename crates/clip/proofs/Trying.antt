@@ -8,10 +8,33 @@ use lib.Dec.{T}
 use lib.Ieee.{Float, Format}
 use lib.ListN.{length}
 use Rattle.rules.specs.Floats.{zeroF, oneF, allFinite}
-use Rattle.rules.specs.OneBeam.{Clipped, directions, allWithin, pointAt, clippedAt, clip}
+use Rattle.rules.specs.OneBeam.{Span, wholeSpan, Clipped, directions, slabs, allWithin, bothBeyond, isInside, clampPoint, pointAt, clippedAt, clip}
 use Rattle.laws.specs.Checks.{AxesInBounds}
 use Rattle.laws.specs.OnTheMap.{clip-uncut}
 use Rattle.laws.specs.OnTheMap.Coordinate.{all-finite}
+
+-- ---- what is left of a beam: b, p, q and i are what the code's calls answered
+module _ (f : Format) (es : List ℕ) (t : Float) (entry exit : List Float) {b : Bool} (asked : b ≡ bothBeyond f es entry exit) where
+  pub within-the-face : b ≡ true → none ≡ clippedAt f es t entry exit
+  unfolding clippedAt
+  within-the-face h = simp (sym asked ∙ h)
+
+  pub clamped : {p q : List Float} {i : Bool} → b ≡ false → p ≡ clampPoint f es entry → q ≡ clampPoint f es exit → i ≡ isInside f es t exit
+      → some (record { entry = p; exit = q; inside = i }) ≡ clippedAt f es t entry exit
+  unfolding clippedAt
+  clamped h p q i = simp (sym asked ∙ h, p, q, i)
+
+-- ---- by the slabs: d, o, p, q and c are what the code's calls answered
+module _ (f : Format) (es : List ℕ) (origin endpoint : List Float) {d : List Float} {o : Option Span} (along : d ≡ directions f origin endpoint)
+    (asked : o ≡ slabs f es origin d wholeSpan) where
+  pub passes-by : o ≡ none → none ≡ clip f es origin endpoint
+  unfolding clip
+  passes-by h = simp (← along, sym asked ∙ h)
+
+  pub cut-out : {s : Span} {p q : List Float} {c : Option Clipped} → o ≡ some s → p ≡ pointAt f (s .entry) origin d → q ≡ pointAt f (s .exit) origin d
+      → c ≡ clippedAt f es (s .exit) p q → c ≡ clip f es origin endpoint
+  unfolding clip
+  cut-out h p q c = simp (← along, sym asked ∙ h, c, p, q)
 
 module _ (f : Format) (es : List ℕ) (origin endpoint : List Float) where
   -- ---- both ends on the map: z and o are the code's zero and one, d, p, q and c what its calls answered

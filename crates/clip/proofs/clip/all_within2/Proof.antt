@@ -1,8 +1,7 @@
--- By the tests, axis by axis.
-use mathlib.Core.Path.{sym, _∙_}
-use mathlib.Core.Bool.{and-true}
+-- Axis by axis.
+use lib.Ieee.{binary64}
 use borrow.Author.Needs.{needs}
-use Rattle.rules.specs.OneBeam.{allWithin}
+use Rattle.clip.proofs.ByAxis.{not-all-within, within-then, last-within}
 use Rattle.clip.proofs.clip.all_within2.Statement.{statement}
 use Rattle.clip.proofs.clip.all_within2.Tie as tie
 
@@ -13,12 +12,10 @@ within-requires-2 : tie.Need-within-requires-2
 within-requires-2 c κs = search needs
 
 returns : tie.Need-returns
-unfolding allWithin
-returns c = simp (sym (c .before .before .within .ensures) ∙ c .before .if1 .taken, and-true, c .within2 .ensures)
+returns c = within-then binary64 _ _ (c .before .before .within .ensures) _ _ (c .before .if1 .taken) (last-within binary64 _ _ (c .within2 .ensures))
 
 returns-2 : tie.Need-returns-2
-unfolding allWithin
-returns-2 c = simp (sym (c .before .within .ensures) ∙ c .if1 .left)
+returns-2 c = not-all-within binary64 _ _ (c .before .within .ensures) _ _ (c .if1 .left)
 
 pub all-within2-spec : {M : Type 1} → statement M
 all-within2-spec = tie.close (tie.spec within-requires within-requires-2 returns returns-2)

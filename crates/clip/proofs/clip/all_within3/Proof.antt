@@ -1,8 +1,7 @@
--- By the tests, axis by axis.
-use mathlib.Core.Path.{sym, _∙_}
-use mathlib.Core.Bool.{and-true}
+-- Axis by axis.
+use lib.Ieee.{binary64}
 use borrow.Author.Needs.{needs}
-use Rattle.rules.specs.OneBeam.{allWithin}
+use Rattle.clip.proofs.ByAxis.{not-all-within, within-then, last-within}
 use Rattle.clip.proofs.clip.all_within3.Statement.{statement}
 use Rattle.clip.proofs.clip.all_within3.Tie as tie
 
@@ -16,16 +15,18 @@ within-requires-3 : tie.Need-within-requires-3
 within-requires-3 c κs = search needs
 
 returns : tie.Need-returns
-unfolding allWithin
-returns c = simp (sym (c .before .before .before .before .within .ensures) ∙ c .before .before .before .if1 .taken, sym (c .before .before .within2 .ensures) ∙ c .before .if2 .taken, and-true, c .within3 .ensures)
+returns c =
+    let y = c .before .before in
+    within-then binary64 _ _ (y .before .before .within .ensures) _ _ (y .before .if1 .taken)
+    (within-then binary64 _ _ (y .within2 .ensures) _ _ (c .before .if2 .taken) (last-within binary64 _ _ (c .within3 .ensures)))
 
 returns-2 : tie.Need-returns-2
-unfolding allWithin
-returns-2 c = simp (sym (c .before .before .before .within .ensures) ∙ c .before .before .if1 .taken, sym (c .before .within2 .ensures) ∙ c .if2 .left)
+returns-2 c =
+    within-then binary64 _ _ (c .before .before .before .within .ensures) _ _ (c .before .before .if1 .taken)
+    (not-all-within binary64 _ _ (c .before .within2 .ensures) _ _ (c .if2 .left))
 
 returns-3 : tie.Need-returns-3
-unfolding allWithin
-returns-3 c = simp (sym (c .before .within .ensures) ∙ c .if1 .left)
+returns-3 c = not-all-within binary64 _ _ (c .before .within .ensures) _ _ (c .if1 .left)
 
 pub all-within3-spec : {M : Type 1} → statement M
 all-within3-spec =

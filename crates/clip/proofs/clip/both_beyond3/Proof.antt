@@ -1,8 +1,7 @@
 -- Axis by axis: the first that has both ends beyond decides.
-use mathlib.Core.Path.{sym, _∙_}
-use mathlib.Core.Bool.{or-false}
+use lib.Ieee.{binary64}
 use borrow.Author.Needs.{needs}
-use Rattle.rules.specs.OneBeam.{bothBeyond}
+use Rattle.clip.proofs.ByAxis.{beyond-one, beyond-then, last-beyond}
 use Rattle.clip.proofs.clip.both_beyond3.Statement.{statement}
 use Rattle.clip.proofs.clip.both_beyond3.Tie as tie
 
@@ -10,22 +9,24 @@ beyond-requires : tie.Need-beyond-requires
 beyond-requires c κs = search needs
 
 returns : tie.Need-returns
-unfolding bothBeyond
-returns c = simp (sym (c .before .beyond .ensures) ∙ c .if1 .taken)
+returns c = beyond-one binary64 _ _ _ (c .before .beyond .ensures) _ _ _ (c .if1 .taken)
 
 beyond-requires-2 : tie.Need-beyond-requires-2
 beyond-requires-2 c κs = search needs
 
 returns-2 : tie.Need-returns-2
-unfolding bothBeyond
-returns-2 c = simp (sym (c .before .before .before .beyond .ensures) ∙ c .before .before .if1 .left, sym (c .before .beyond2 .ensures) ∙ c .if2 .taken)
+returns-2 c =
+    beyond-then binary64 _ _ _ (c .before .before .before .beyond .ensures) _ _ _ (c .before .before .if1 .left)
+    (beyond-one binary64 _ _ _ (c .before .beyond2 .ensures) _ _ _ (c .if2 .taken))
 
 beyond-requires-3 : tie.Need-beyond-requires-3
 beyond-requires-3 c κs = search needs
 
 returns-3 : tie.Need-returns-3
-unfolding bothBeyond
-returns-3 c = simp (sym (c .before .before .before .before .beyond .ensures) ∙ c .before .before .before .if1 .left, sym (c .before .before .beyond2 .ensures) ∙ c .before .if2 .left, or-false, c .beyond3 .ensures)
+returns-3 c =
+    let y = c .before .before in
+    beyond-then binary64 _ _ _ (y .before .before .beyond .ensures) _ _ _ (y .before .if1 .left)
+    (beyond-then binary64 _ _ _ (y .beyond2 .ensures) _ _ _ (c .before .if2 .left) (last-beyond binary64 _ _ _ (c .beyond3 .ensures)))
 
 pub both-beyond3-spec : {M : Type 1} → statement M
 both-beyond3-spec =

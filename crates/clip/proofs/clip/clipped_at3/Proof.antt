@@ -1,7 +1,7 @@
 -- By the test whether both ends are beyond, and the contracts of the parts.
-use mathlib.Core.Path.{sym, _∙_}
+use lib.Ieee.{binary64}
 use borrow.Author.Needs.{needs}
-use Rattle.rules.specs.OneBeam.{clippedAt}
+use Rattle.clip.proofs.Trying.{within-the-face, clamped}
 use Rattle.clip.proofs.clip.clipped_at3.Statement.{statement}
 use Rattle.clip.proofs.clip.clipped_at3.Tie as tie
 
@@ -9,8 +9,7 @@ both-beyond3-requires : tie.Need-both-beyond3-requires
 both-beyond3-requires c κs = search needs
 
 returns : tie.Need-returns
-unfolding clippedAt
-returns c = simp (sym (c .before .both-beyond3 .ensures) ∙ c .if1 .taken)
+returns c = within-the-face binary64 _ _ _ _ (c .before .both-beyond3 .ensures) (c .if1 .taken)
 
 clamp-to-addressable-cell3-requires : tie.Need-clamp-to-addressable-cell3-requires
 clamp-to-addressable-cell3-requires c κs = search needs
@@ -22,14 +21,10 @@ is-inside3-requires : tie.Need-is-inside3-requires
 is-inside3-requires c κs = search needs
 
 returns-2 : tie.Need-returns-2
-unfolding clippedAt
 returns-2 c =
-    simp (
-      sym (c .before .before .before .before .both-beyond3 .ensures) ∙ c .before .before .before .if1 .left,
-      c .before .before .clamp-to-addressable-cell3 .ensures,
-      c .before .clamp-to-addressable-cell32 .ensures,
-      c .is-inside3 .ensures,
-    )
+    let b = c .before .before .before in
+    clamped binary64 _ _ _ _ (b .before .both-beyond3 .ensures) (b .if1 .left) (c .before .before .clamp-to-addressable-cell3 .ensures)
+    (c .before .clamp-to-addressable-cell32 .ensures) (c .is-inside3 .ensures)
 
 pub clipped-at3-spec : {M : Type 1} → statement M
 clipped-at3-spec =

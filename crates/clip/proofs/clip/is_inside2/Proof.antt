@@ -1,8 +1,8 @@
 -- By the tests, the fraction's first and then the point's.
-use borrow.Author.Needs.{needs}
 use lib.Ieee.{binary64}
-use Rattle.rules.specs.OneBeam.{isInside}
+use borrow.Author.Needs.{needs}
 use Rattle.laws.specs.Literals.{one-is}
+use Rattle.clip.proofs.ByAxis.{reaches, stops-short}
 use Rattle.clip.proofs.clip.is_inside2.Statement.{statement}
 use Rattle.clip.proofs.clip.is_inside2.Tie as tie
 
@@ -10,12 +10,10 @@ all-within2-requires : tie.Need-all-within2-requires
 all-within2-requires c κs = search needs
 
 returns : tie.Need-returns
-unfolding isInside
-returns c = simp (rw (one-is binary64) at (c .before .if1 .taken), c .all-within2 .ensures)
+returns c = reaches binary64 _ _ _ (one-is binary64) (c .before .if1 .taken) (c .all-within2 .ensures)
 
 returns-2 : tie.Need-returns-2
-unfolding isInside
-returns-2 c = simp (rw (one-is binary64) at (c .if1 .left))
+returns-2 c = stops-short binary64 _ _ _ (one-is binary64) (c .if1 .left)
 
 pub is-inside2-spec : {M : Type 1} → statement M
 is-inside2-spec = tie.close (tie.spec all-within2-requires returns returns-2)

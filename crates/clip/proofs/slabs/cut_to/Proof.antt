@@ -1,6 +1,6 @@
 -- The larger entry and the smaller exit, by their contracts, and the test between them.
 use borrow.Author.Needs.{needs}
-use Rattle.rules.specs.OneBeam.{cutTo}
+use Rattle.clip.proofs.Crossing.{cut-away, cut-down}
 use Rattle.clip.proofs.slabs.cut_to.Statement.{statement}
 use Rattle.clip.proofs.slabs.cut_to.Tie as tie
 
@@ -11,12 +11,10 @@ smaller-of-requires : tie.Need-smaller-of-requires
 smaller-of-requires c κs = search needs
 
 returns : tie.Need-returns
-unfolding cutTo
-returns c = simp (← c .before .before .larger-of .ensures, ← c .before .smaller-of .ensures, c .if1 .taken)
+returns c = cut-away _ _ _ (c .before .before .larger-of .ensures) (c .before .smaller-of .ensures) (c .if1 .taken)
 
 returns-2 : tie.Need-returns-2
-unfolding cutTo
-returns-2 c = simp (← c .before .before .larger-of .ensures, ← c .before .smaller-of .ensures, c .if1 .left)
+returns-2 c = cut-down _ _ _ (c .before .before .larger-of .ensures) (c .before .smaller-of .ensures) (c .if1 .left)
 
 pub cut-to-spec : {M : Type 1} → statement M
 cut-to-spec = tie.close (tie.spec larger-of-requires smaller-of-requires returns returns-2)

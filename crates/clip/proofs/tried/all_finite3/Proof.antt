@@ -1,8 +1,6 @@
 -- Axis by axis.
-use mathlib.Core.Path.{sym, _∙_}
-use mathlib.Core.Bool.{and-true}
 use borrow.Author.Needs.{needs}
-use Rattle.rules.specs.Floats.{allFinite}
+use Rattle.clip.proofs.ByAxis.{not-all-finite, finite-then, last-finite}
 use Rattle.clip.proofs.tried.all_finite3.Statement.{statement}
 use Rattle.clip.proofs.tried.all_finite3.Tie as tie
 
@@ -16,16 +14,17 @@ is-finite-requires-3 : tie.Need-is-finite-requires-3
 is-finite-requires-3 c κs = search needs
 
 returns : tie.Need-returns
-unfolding allFinite
-returns c = simp (sym (c .before .before .before .before .is-finite .ensures) ∙ c .before .before .before .if1 .taken, sym (c .before .before .is-finite2 .ensures) ∙ c .before .if2 .taken, and-true, c .is-finite3 .ensures)
+returns c =
+    let y = c .before .before in
+    finite-then _ (y .before .before .is-finite .ensures) _ (y .before .if1 .taken)
+    (finite-then _ (y .is-finite2 .ensures) _ (c .before .if2 .taken) (last-finite _ (c .is-finite3 .ensures)))
 
 returns-2 : tie.Need-returns-2
-unfolding allFinite
-returns-2 c = simp (sym (c .before .before .before .is-finite .ensures) ∙ c .before .before .if1 .taken, sym (c .before .is-finite2 .ensures) ∙ c .if2 .left)
+returns-2 c =
+    finite-then _ (c .before .before .before .is-finite .ensures) _ (c .before .before .if1 .taken) (not-all-finite _ (c .before .is-finite2 .ensures) _ (c .if2 .left))
 
 returns-3 : tie.Need-returns-3
-unfolding allFinite
-returns-3 c = simp (sym (c .before .is-finite .ensures) ∙ c .if1 .left)
+returns-3 c = not-all-finite _ (c .before .is-finite .ensures) _ (c .if1 .left)
 
 pub all-finite3-spec : {M : Type 1} → statement M
 all-finite3-spec =
