@@ -1,12 +1,11 @@
--- Marks applied to the lent lists, in every format: none, one, and one list after another. Assumes nothing.
+-- Marks applied to the lent lists: none, one, and one list after another. Assumes nothing.
 use Prim.Native.Nat.{ℕ, _+_, _<_}
-use mathlib.Core.Bool.{Bool, true, false, cond}
+use mathlib.Core.Bool.{Bool, cond}
 use mathlib.Core.List.{List, [], _++_}
 use mathlib.Core.Path.{_≡_, refl, sym, ap, ap₂, _∙_}
 use native.Mathlib.Omega.{arith}
 use lib.Ieee.{Float, Format}
 use lib.ListN.{length, getD, set}
-use mir.Val.{boolByte}
 use Rattle.rules.specs.RefusalNumbers.{given}
 use Rattle.rules.specs.RefusalNumbers.Entries.{Outcome}
 use Rattle.rules.specs.TheGridAndItsBounds.{Model, Grid}
@@ -16,23 +15,18 @@ use Rattle.laws.specs.Room.{room, room-set, mark-lowers}
 use Rattle.marks.specs.Marking.{gridOf, markOn, MarkedAt}
 use Rattle.beam.specs.Applying.{Applied, one}
 
--- a bool cast to a number counts one mark or none
-as-counted : (b : Bool) → boolByte b ≡ cond b 1 0
-as-counted true = refl
-as-counted false = refl
-
 module _ (f : Format) (m : Model) (k : ℕ) where
   pub none-applied : (odds : List Float) (stamps : List ℕ) → Applied f [] m k odds stamps 0 odds stamps
   unfolding marked changes
   none-applied odds stamps = record { count = refl; grid = refl; used = omega arith }
 
-  pub one-applied : (occupied : Bool) (at : ℕ) (odds odds′ : List Float) (stamps stamps′ : List ℕ) (changed : Bool)
-      → at < length stamps → MarkedAt f occupied (stepsAt m at) k at odds stamps changed odds′ stamps′
-      → Applied f (one at occupied) m k odds stamps (boolByte changed) odds′ stamps′
+  pub one-applied : (occupied : Bool) (at : ℕ) (odds odds′ : List Float) (stamps stamps′ : List ℕ) (changed : Bool) (n : ℕ)
+      → at < length stamps → MarkedAt f occupied (stepsAt m at) k at odds stamps changed odds′ stamps′ → n ≡ cond changed 1 0
+      → Applied f (one at occupied) m k odds stamps n odds′ stamps′
   unfolding marked changes markAt
-  one-applied occupied at odds odds′ stamps stamps′ changed h d =
+  one-applied occupied at odds odds′ stamps stamps′ changed n h d e =
       let r = markOn f occupied (stepsAt m at) k at odds stamps in
-      let c : boolByte changed ≡ cond (r .changed) 1 0 = as-counted changed ∙ ap (λ (b : Bool). cond b 1 0) (d .answer) in
+      let c : n ≡ cond (r .changed) 1 0 = e ∙ ap (λ (b : Bool). cond b 1 0) (d .answer) in
       let low = mark-lowers f (stepsAt m at) k occupied (record { odds = getD odds at lib.Ieee.nan; stamp = getD stamps at 0 }) in
       let moved = room-set k stamps at (r .cell .stamp) h in
       let after : room k stamps′ ≡ room k (set stamps at (r .cell .stamp)) = ap (room k) (d .stamps-now) in

@@ -3,23 +3,19 @@ use Prim.Native.Nat.{ℕ, _+_, _<_, _≤_}
 use mathlib.Core.List.{List, map}
 use mathlib.Core.Path.{_≡_, refl, sym, subst}
 use native.Mathlib.Omega.{arith}
-use mathlib.Core.Bool.{Bool, false}
+use mathlib.Core.Bool.{false}
 use lib.Ieee.{Float, Format}
 use lib.IntN.{pos}
 use lib.ListN.{length}
-use mir.Val.{boolByte}
-use Rattle.rules.specs.TheGridAndItsBounds.{Head, mostExtent, cells as cellsOf}
-use Rattle.rules.specs.MarksAndFrames.{stepsAt}
+use Rattle.rules.specs.TheGridAndItsBounds.{Head, mostExtent}
 use Rattle.rules.specs.Coordinates.{flatIndex}
 use Rattle.rules.specs.RefusalNumbers.{given}
 use Rattle.rules.specs.TheLine.{Line, axesAfter}
 use Rattle.laws.specs.Checks.{Ready}
 use Rattle.laws.specs.Following.{Drawn, AllFollowed, AllSmall, followed-cells}
 use Rattle.laws.specs.LineSteps.{lineAfter}
-use Rattle.marks.specs.Marking.{MarkedAt}
 use Rattle.beam.specs.Applying.{Applied, one}
 use Rattle.beam.specs.Walking.{Begun}
-use Rattle.beam.proofs.Applying.{one-applied}
 use Rattle.beam.proofs.Walking.{not-started, goes-free}
 
 pub record Along (f : Format) (h : Head) (line : Line) (odds₀ : List Float) (stamps₀ : List ℕ) (cells : List ℕ) (rest : Line) (odds : List Float) (stamps : List ℕ) (count remaining : ℕ)
@@ -38,13 +34,6 @@ module _ (f : Format) (h : Head) (line : Line) (odds₀ : List Float) (stamps₀
 
   module _ (cells : List ℕ) (rest : Line) (odds : List Float) (stamps : List ℕ) (count remaining : ℕ)
       (a : Along f h line odds₀ stamps₀ cells rest odds stamps count remaining) where
-    -- the cell's mark, counted
-    pub counts : (at : ℕ) (odds′ : List Float) (stamps′ : List ℕ) (changed : Bool) → at < cellsOf (h .extents)
-        → MarkedAt f false (stepsAt (h .model) at) (h .frame) at odds stamps changed odds′ stamps′
-        → Applied f (one at false) (h .model) (h .frame) odds stamps (boolByte changed) odds′ stamps′
-    counts at odds′ stamps′ changed lt marked =
-        one-applied f (h .model) (h .frame) false at odds odds′ stamps stamps′ changed (rw (a .begun .walked false .ready .stamps-count) lt) marked
-
     pub follows : (cells′ : List ℕ) (after : Line) (at n : ℕ) (odds′ : List Float) (stamps′ : List ℕ) → 1 < remaining → AllSmall cells
         → flatIndex (h .extents) (map pos cells) ≡ given at → Applied f (one at false) (h .model) (h .frame) odds stamps n odds′ stamps′
         → after ≡ lineAfter f rest → AllFollowed f cells′ (axesAfter f 0 (rest .primary) (rest .threshold) (rest .axes))

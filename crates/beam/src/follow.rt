@@ -8,8 +8,8 @@ ghost use Rattle.laws.specs.Following.{Drawn};
 ghost use Rattle.bresenham.specs.Lines.{line2, line3};
 ghost use Rattle.grid_map.specs.Heads.{head2, head3};
 ghost use Rattle.beam.specs.Walking.{Begun};
-use crate::marking::mark_place;
-use crate::marking::mark_place3;
+use crate::marking::mark_counted;
+use crate::marking::mark_counted3;
 use bresenham::BresenhamLine2;
 use bresenham::BresenhamLine3;
 use bresenham::cell_after;
@@ -47,7 +47,7 @@ pub fn follow2(map: GridMap2, odds: &mut [f64], stamps: &mut [u32], line: Bresen
             return Part2 { rest, count };
         }
         let at = place_within2(extents, x, y);
-        count += mark_place(odds, stamps, at, map.model, map.frame, false) as u64;
+        count += mark_counted(odds, stamps, at, map.model, map.frame, false);
         x = cell_after(x, rest.x, 0, rest.primary, rest.threshold);
         y = cell_after(y, rest.y, 1, rest.primary, rest.threshold);
         rest = rest.moved();
@@ -88,7 +88,7 @@ pub fn follow3(map: GridMap3, odds: &mut [f64], stamps: &mut [u32], line: Bresen
             return Part3 { rest, count };
         }
         let at = place_within3(extents, x, y, z);
-        count += mark_place3(map, odds, stamps, at, false) as u64;
+        count += mark_counted3(map, odds, stamps, at, false);
         x = cell_after(x, rest.x, 0, rest.primary, rest.threshold);
         y = cell_after(y, rest.y, 1, rest.primary, rest.threshold);
         z = cell_after(z, rest.z, 2, rest.primary, rest.threshold);

@@ -7,5 +7,6 @@ mod walk;
 
 pub use beam::integrate2;
 pub use beam::integrate3;
+pub use marking::mark_counted3;
 pub use marking::mark_place;
 pub use marking::mark_place3;

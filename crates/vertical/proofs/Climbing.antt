@@ -9,18 +9,15 @@ use native.Mathlib.Omega.{arith}
 use lib.IntN.{pos}
 use lib.Ieee.{Float, Format}
 use lib.ListN.{length}
-use mir.Val.{boolByte}
 use Rattle.rules.specs.RefusalNumbers.{given}
 use Rattle.rules.specs.TheGridAndItsBounds.{Head, cells, strides, stridesFrom}
 use Rattle.rules.specs.Coordinates.{timesStrides, flatIndex}
-use Rattle.rules.specs.MarksAndFrames.{stepsAt}
 use Rattle.rules.specs.VerticalBeam.{Vertical, inProfile, columnPlace, columnMarks}
 use Rattle.laws.specs.Checks.{Ready}
 use Rattle.laws.specs.Places.{place-lt}
 use Rattle.laws.specs.Room.{room}
-use Rattle.marks.specs.Marking.{MarkedAt}
 use Rattle.beam.specs.Applying.{Applied, one}
-use Rattle.beam.proofs.Applying.{one-applied, both-applied}
+use Rattle.beam.proofs.Applying.{both-applied}
 use Rattle.beam.proofs.Walking.{still-ready}
 use Rattle.vertical.proofs.InProfile.{Inside, inside-of, on-grid}
 
@@ -68,13 +65,6 @@ module _ (f : Format) (h : Head) (x y : ℕ) (last : Bool) (bottom above : ℕ) 
   starts at r e = record { height = bottom; level = refl; place = e; ready = r; used = omega arith; whole = λ n o s a. rw zero-add a }
 
   module _ (at count : ℕ) (odds : List Float) (stamps : List ℕ) where
-    -- a mark here, counted
-    pub counts : (left : ℕ) (occupied changed : Bool) (odds′ : List Float) (stamps′ : List ℕ) → Climbing at left count odds stamps → at < cells (h .extents)
-        → MarkedAt f occupied (stepsAt (h .model) at) (h .frame) at odds stamps changed odds′ stamps′
-        → Applied f (one at occupied) (h .model) (h .frame) odds stamps (boolByte changed) odds′ stamps′
-    counts left occupied changed odds′ stamps′ w lt marked =
-        one-applied f (h .model) (h .frame) occupied at odds odds′ stamps stamps′ changed (rw (w .ready .stamps-count) lt) marked
-
     -- a free mark, and the place above it
     one-up : (left next n : ℕ) (odds′ : List Float) (stamps′ : List ℕ) (w : Climbing at (suc left) count odds stamps)
         → Applied f (one at false) (h .model) (h .frame) odds stamps n odds′ stamps′ → next ≡ columnPlace (h .extents) x y (suc (w .height))

@@ -8,7 +8,7 @@ ghost use Rattle.types.specs.Points.{extents3};
 ghost use Rattle.types.specs.Models.{bandsOf};
 ghost use Rattle.grid_map.specs.Heads.{head3};
 ghost use Rattle.beam.specs.Applying.{Applied};
-use beam::mark_place3;
+use beam::mark_counted3;
 use grid_map::GridMap3;
 use places::place_within3;
 
@@ -36,9 +36,9 @@ pub fn mark_column(
     let mut left = above;
     let mut count: u64 = 0;
     while left > 0 {
-        count += mark_place3(map, odds, stamps, at, false) as u64;
+        count += mark_counted3(map, odds, stamps, at, false);
         at += layer;
         left -= 1;
     }
-    count + mark_place3(map, odds, stamps, at, occupied) as u64
+    count + mark_counted3(map, odds, stamps, at, occupied)
 }

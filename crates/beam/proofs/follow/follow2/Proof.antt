@@ -6,13 +6,12 @@ use native.Mathlib.Omega.{arith}
 use borrow.Author.Needs.{needs}
 use denote.Ref.{now}
 use lib.Ieee.{binary64}
-use mir.Val.{boolByte}
 use Rattle.rules.specs.TheLine.{Line, axesAfter}
 use Rattle.laws.specs.Places.{place-lt}
 use Rattle.laws.specs.Room.{room-most}
 use Rattle.bresenham.specs.Lines.{line2}
 use Rattle.grid_map.specs.Heads.{head2}
-use Rattle.beam.proofs.Following.{Along, on-a-map, starts, counts, follows}
+use Rattle.beam.proofs.Following.{Along, on-a-map, starts, follows}
 use Rattle.beam.proofs.follow.follow2.Statement.{statement}
 use Rattle.beam.proofs.follow.follow2.Tie as tie
 
@@ -53,19 +52,16 @@ returns-2 c = c .before .before .before .before .before .loop .inv .begun
 place-within2-requires : tie.Need-place-within2-requires Inv-loop μ-loop
 place-within2-requires c κs = (c .before .before .before .before .before .before .before .before .before .before .before .before .before .pre .0 .extents, (c .before .before .if1 .left, c .if2 .left))
 
-mark-place-requires : tie.Need-mark-place-requires Inv-loop μ-loop
-mark-place-requires c κs =
+mark-counted-requires : tie.Need-mark-counted-requires Inv-loop μ-loop
+mark-counted-requires c κs =
     let lt = place-lt _ _ _ refl (c .before .before .place-within2 .ensures) in
     let p = c .before .before .before .before .before .before .before .before .loop .inv .begun .walked false .ready in
     (rw (p .odds-count) lt, (rw (p .stamps-count) lt, p .frame))
 
-cast-count : tie.Need-cast-count Inv-loop μ-loop
-cast-count c = search needs
-
 add-count : tie.Need-add-count Inv-loop μ-loop
 add-count c =
     let before = c .before .before .before .before .before .before .before .before .before .before .before .before .before .loop .inv .begun .walked false .used in
-    let step = counts _ _ _ _ _ _ _ _ _ _ _ (c .before .before .before .before .before .before .before .before .before .before .before .before .before .loop .inv) _ _ _ _ (place-lt _ _ _ refl (c .before .before .before .before .before .before .before .place-within2 .ensures)) (c .before .before .before .before .mark-place .ensures) .used in
+    let step = c .before .before .before .before .mark-counted .ensures .used in
     let most = room-most (c .before .before .before .before .before .before .before .before .before .before .before .before .before .before .before .before .before .before .before .before .before .args .map .frame .0) (now (c .before .before .before .before .before .before .before .before .before .before .before .before .before .before .before .before .before .before .before .before .before .args .stamps)) in
     let counted = c .before .before .before .before .before .before .before .before .before .before .before .before .before .before .before .before .before .before .before .before .before .pre .0 .stamps-count in
     let few = c .before .before .before .before .before .before .before .before .before .before .before .before .before .before .before .before .before .before .before .before .before .pre .0 .extents .1 in
@@ -97,7 +93,7 @@ loop-less c =
 loop-again : tie.Need-loop-again Inv-loop μ-loop
 unfolding axesAfter
 loop-again c =
-    follows _ _ _ _ _ _ (line2 (c .before .before .before .before .before .before .before .before .before .before .before .before .before .before .before .before .loop .rest)) _ _ _ _ (c .before .before .before .before .before .before .before .before .before .before .before .before .before .before .before .before .loop .inv) _ _ _ (boolByte (c .before .before .before .before .before .before .before .mark-place .result)) _ _
+    follows _ _ _ _ _ _ (line2 (c .before .before .before .before .before .before .before .before .before .before .before .before .before .before .before .before .loop .rest)) _ _ _ _ (c .before .before .before .before .before .before .before .before .before .before .before .before .before .before .before .before .loop .inv) _ _ _ (c .before .before .before .before .before .before .before .mark-counted .result) _ _
     (c .before .before .before .before .before .before .before .before .before .before .before .before .before .before .before .loop-test .taken) (
       on-a-map _ _ (c .before .before .before .before .before .before .before .before .before .before .before .before .before .if1 .left) (c .before .before .before .before .before .before .before .before .before .before .before .before .before .before .before .before .before .before .before .before .before .before .before .before .pre .0 .extents .0 .1),
       (
@@ -105,7 +101,7 @@ loop-again c =
         tt,
       ),
     )
-    (c .before .before .before .before .before .before .before .before .before .before .place-within2 .ensures) (counts _ _ _ _ _ _ _ _ _ _ _ (c .before .before .before .before .before .before .before .before .before .before .before .before .before .before .before .before .loop .inv) _ _ _ _ (place-lt _ _ _ refl (c .before .before .before .before .before .before .before .before .before .before .place-within2 .ensures)) (c .before .before .before .before .before .before .before .mark-place .ensures)) (c .moved .ensures)
+    (c .before .before .before .before .before .before .before .before .before .before .place-within2 .ensures) (c .before .before .before .before .before .before .before .mark-counted .ensures) (c .moved .ensures)
     (c .before .before .cell-after .ensures, (c .before .cell-after2 .ensures, tt))
 
 same-length-5 : tie.Need-same-length-5 Inv-loop μ-loop
@@ -133,8 +129,7 @@ follow2-spec =
     same-length-4
     returns-2
     place-within2-requires
-    mark-place-requires
-    cast-count
+    mark-counted-requires
     add-count
     cell-after-requires
     cell-after-requires-2

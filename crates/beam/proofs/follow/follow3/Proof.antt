@@ -6,13 +6,12 @@ use native.Mathlib.Omega.{arith}
 use borrow.Author.Needs.{needs}
 use denote.Ref.{now}
 use lib.Ieee.{binary64}
-use mir.Val.{boolByte}
 use Rattle.rules.specs.TheLine.{Line, axesAfter}
 use Rattle.laws.specs.Places.{place-lt}
 use Rattle.laws.specs.Room.{room-most}
 use Rattle.bresenham.specs.Lines.{line3}
 use Rattle.grid_map.specs.Heads.{head3}
-use Rattle.beam.proofs.Following.{Along, on-a-map, starts, counts, follows}
+use Rattle.beam.proofs.Following.{Along, on-a-map, starts, follows}
 use Rattle.beam.proofs.follow.follow3.Statement.{statement}
 use Rattle.beam.proofs.follow.follow3.Tie as tie
 
@@ -65,19 +64,16 @@ returns-3 c = c .before .before .before .before .before .before .before .loop .i
 place-within3-requires : tie.Need-place-within3-requires Inv-loop μ-loop
 place-within3-requires c κs = (c .before .before .before .before .before .before .before .before .before .before .before .before .before .before .before .before .before .pre .0 .extents, (c .before .before .before .before .if1 .left, (c .before .before .if2 .left, c .if3 .left)))
 
-mark-place3-requires : tie.Need-mark-place3-requires Inv-loop μ-loop
-mark-place3-requires c κs =
+mark-counted3-requires : tie.Need-mark-counted3-requires Inv-loop μ-loop
+mark-counted3-requires c κs =
     let lt = place-lt _ _ _ refl (c .before .before .place-within3 .ensures) in
     let p = c .before .before .before .before .before .before .before .before .before .before .loop .inv .begun .walked false .ready in
     (p, rw (p .odds-count) lt)
 
-cast-count : tie.Need-cast-count Inv-loop μ-loop
-cast-count c = search needs
-
 add-count : tie.Need-add-count Inv-loop μ-loop
 add-count c =
     let before = c .before .before .before .before .before .before .before .before .before .before .before .before .before .before .before .loop .inv .begun .walked false .used in
-    let step = counts _ _ _ _ _ _ _ _ _ _ _ (c .before .before .before .before .before .before .before .before .before .before .before .before .before .before .before .loop .inv) _ _ _ _ (place-lt _ _ _ refl (c .before .before .before .before .before .before .before .place-within3 .ensures)) (c .before .before .before .before .mark-place3 .ensures) .used in
+    let step = c .before .before .before .before .mark-counted3 .ensures .used in
     let most = room-most (c .before .before .before .before .before .before .before .before .before .before .before .before .before .before .before .before .before .before .before .before .before .before .before .before .before .args .map .frame .0) (now (c .before .before .before .before .before .before .before .before .before .before .before .before .before .before .before .before .before .before .before .before .before .before .before .before .before .args .stamps)) in
     let counted = c .before .before .before .before .before .before .before .before .before .before .before .before .before .before .before .before .before .before .before .before .before .before .before .before .before .pre .0 .stamps-count in
     let few = c .before .before .before .before .before .before .before .before .before .before .before .before .before .before .before .before .before .before .before .before .before .before .before .before .before .pre .0 .extents .1 in
@@ -114,7 +110,7 @@ loop-less c =
 loop-again : tie.Need-loop-again Inv-loop μ-loop
 unfolding axesAfter
 loop-again c =
-    follows _ _ _ _ _ _ (line3 (c .before .before .before .before .before .before .before .before .before .before .before .before .before .before .before .before .before .before .before .loop .rest)) _ _ _ _ (c .before .before .before .before .before .before .before .before .before .before .before .before .before .before .before .before .before .before .before .loop .inv) _ _ _ (boolByte (c .before .before .before .before .before .before .before .before .mark-place3 .result)) _ _
+    follows _ _ _ _ _ _ (line3 (c .before .before .before .before .before .before .before .before .before .before .before .before .before .before .before .before .before .before .before .loop .rest)) _ _ _ _ (c .before .before .before .before .before .before .before .before .before .before .before .before .before .before .before .before .before .before .before .loop .inv) _ _ _ (c .before .before .before .before .before .before .before .before .mark-counted3 .result) _ _
     (c .before .before .before .before .before .before .before .before .before .before .before .before .before .before .before .before .before .before .loop-test .taken) (
       on-a-map _ _ (c .before .before .before .before .before .before .before .before .before .before .before .before .before .before .before .before .if1 .left) (c .before .before .before .before .before .before .before .before .before .before .before .before .before .before .before .before .before .before .before .before .before .before .before .before .before .before .before .before .before .pre .0 .extents .0 .1),
       (
@@ -125,7 +121,7 @@ loop-again c =
         ),
       ),
     )
-    (c .before .before .before .before .before .before .before .before .before .before .before .place-within3 .ensures) (counts _ _ _ _ _ _ _ _ _ _ _ (c .before .before .before .before .before .before .before .before .before .before .before .before .before .before .before .before .before .before .before .loop .inv) _ _ _ _ (place-lt _ _ _ refl (c .before .before .before .before .before .before .before .before .before .before .before .place-within3 .ensures)) (c .before .before .before .before .before .before .before .before .mark-place3 .ensures)) (c .moved .ensures)
+    (c .before .before .before .before .before .before .before .before .before .before .before .place-within3 .ensures) (c .before .before .before .before .before .before .before .before .mark-counted3 .ensures) (c .moved .ensures)
     (c .before .before .before .cell-after .ensures, (c .before .before .cell-after2 .ensures, (c .before .cell-after3 .ensures, tt)))
 
 same-length-7 : tie.Need-same-length-7 Inv-loop μ-loop
@@ -157,8 +153,7 @@ follow3-spec =
     same-length-6
     returns-3
     place-within3-requires
-    mark-place3-requires
-    cast-count
+    mark-counted3-requires
     add-count
     cell-after-requires
     cell-after-requires-2

@@ -5,12 +5,11 @@ use native.Mathlib.Nat.{mul-le-mul}
 use native.Mathlib.Omega.{arith}
 use borrow.Author.Needs.{needs}
 use denote.Ref.{now}
-use lib.Ieee.{binary64}
 use mir.Facts.{fits-le, fits-lit}
-use mir.Val.{boolByte}
+use lib.Ieee.{binary64}
 use Rattle.laws.specs.Room.{room-most}
 use Rattle.grid_map.specs.Heads.{head3}
-use Rattle.vertical.proofs.Climbing.{next-place, place-below, place-is, Climbing, starts, counts, goes-up, ends}
+use Rattle.vertical.proofs.Climbing.{next-place, place-below, place-is, Climbing, starts, goes-up, ends}
 use Rattle.vertical.proofs.column.mark_column.Statement.{statement}
 use Rattle.vertical.proofs.column.mark_column.Tie as tie
 
@@ -38,8 +37,8 @@ loop-holds c =
     let h = s .pre .1 .1 .1 in
     starts _ _ _ _ _ _ _ _ _ _ (s .pre .0) (place-is _ _ _ _ _ _ _ (s .pre .1 .0) (s .pre .1 .1 .0) (omega arith) (c .place-within3 .ensures))
 
-mark-place3-requires : tie.Need-mark-place3-requires Inv-loop μ-loop
-mark-place3-requires c κs =
+mark-counted3-requires : tie.Need-mark-counted3-requires Inv-loop μ-loop
+mark-counted3-requires c κs =
     let w = c .before .before .before .loop .inv in
     let s = c .before .before .before .before .before .before .before .before .before in
     let h = s .pre .1 .1 .1 in
@@ -48,19 +47,12 @@ mark-place3-requires c κs =
     let lt = place-below _ _ _ _ _ _ _ (w .place) (s .pre .1 .0) (s .pre .1 .1 .0) (omega arith) in
     (w .ready, rw (w .ready .odds-count) lt)
 
-cast-count : tie.Need-cast-count Inv-loop μ-loop
-cast-count c = search needs
-
 add-count : tie.Need-add-count Inv-loop μ-loop
 add-count c =
     let w = c .before .before .before .before .before .before .before .before .loop .inv in
     let s = c .before .before .before .before .before .before .before .before .before .before .before .before .before .before in
     let before = w .used in
-    let h = s .pre .1 .1 .1 in
-    let l = w .level in
-    let t = c .before .before .before .before .before .before .before .loop-test .taken in
-    let lt = place-below _ _ _ _ _ _ _ (w .place) (s .pre .1 .0) (s .pre .1 .1 .0) (omega arith) in
-    let step = counts _ _ _ _ _ _ _ _ _ _ _ _ _ _ _ _ _ _ w lt (c .before .before .before .before .mark-place3 .ensures) .used in
+    let step = c .before .before .before .before .mark-counted3 .ensures .used in
     let most = room-most (s .args .map .frame .0) (now (s .args .stamps)) in
     let counted = s .pre .0 .stamps-count in
     let few = s .pre .0 .extents .1 in
@@ -88,15 +80,12 @@ loop-again c =
     let w = c .before .before .before .before .before .before .before .before .loop .inv in
     let s = c .before .before .before .before .before .before .before .before .before .before .before .before .before .before in
     let t = c .before .before .before .before .before .before .before .loop-test .taken in
-    let h = s .pre .1 .1 .1 in
-    let l = w .level in
-    let lt = place-below _ _ _ _ _ _ _ (w .place) (s .pre .1 .0) (s .pre .1 .1 .0) (omega arith) in
-    goes-up _ _ _ _ _ _ _ _ _ _ _ _ _ _ _ (boolByte (c .before .before .before .before .mark-place3 .result)) _ _ w (omega arith)
-    (counts _ _ _ _ _ _ _ _ _ _ _ _ _ _ _ _ _ _ w lt (c .before .before .before .before .mark-place3 .ensures))
+    goes-up _ _ _ _ _ _ _ _ _ _ _ _ _ _ _ (c .before .before .before .before .mark-counted3 .result) _ _ w (omega arith)
+    (c .before .before .before .before .mark-counted3 .ensures)
     (next-place _ _ _ _ _ _ _ (w .place))
 
-mark-place3-requires-2 : tie.Need-mark-place3-requires-2 Inv-loop μ-loop
-mark-place3-requires-2 c κs =
+mark-counted3-requires-2 : tie.Need-mark-counted3-requires-2 Inv-loop μ-loop
+mark-counted3-requires-2 c κs =
     let w = c .before .before .before .loop .inv in
     let s = c .before .before .before .before .before .before .before .before .before in
     let h = s .pre .1 .1 .1 in
@@ -104,18 +93,12 @@ mark-place3-requires-2 c κs =
     let lt = place-below _ _ _ _ _ _ _ (w .place) (s .pre .1 .0) (s .pre .1 .1 .0) (omega arith) in
     (w .ready, rw (w .ready .odds-count) lt)
 
-cast-result : tie.Need-cast-result Inv-loop μ-loop
-cast-result c = search needs
-
 add-result : tie.Need-add-result Inv-loop μ-loop
 add-result c =
     let w = c .before .before .before .before .before .before .before .before .loop .inv in
     let s = c .before .before .before .before .before .before .before .before .before .before .before .before .before .before in
     let before = w .used in
-    let h = s .pre .1 .1 .1 in
-    let l = w .level in
-    let lt = place-below _ _ _ _ _ _ _ (w .place) (s .pre .1 .0) (s .pre .1 .1 .0) (omega arith) in
-    let step = counts _ _ _ _ _ _ _ _ _ _ _ _ _ _ _ _ _ _ w lt (c .before .before .before .before .mark-place32 .ensures) .used in
+    let step = c .before .before .before .before .mark-counted32 .ensures .used in
     let most = room-most (s .args .map .frame .0) (now (s .args .stamps)) in
     let counted = s .pre .0 .stamps-count in
     let few = s .pre .0 .extents .1 in
@@ -129,14 +112,10 @@ same-length-2 c = search needs
 
 returns : tie.Need-returns Inv-loop μ-loop
 returns c =
-    let w = c .before .before .before .before .before .before .before .before .loop .inv in
-    let s = c .before .before .before .before .before .before .before .before .before .before .before .before .before .before in
     let t = c .before .before .before .before .before .before .before .loop-test .left in
-    let h = s .pre .1 .1 .1 in
-    let l = w .level in
-    let lt = place-below _ _ _ _ _ _ _ (w .place) (s .pre .1 .0) (s .pre .1 .1 .0) (omega arith) in
-    ends _ _ _ _ _ _ _ _ _ _ _ _ _ _ (boolByte (c .before .before .before .before .mark-place32 .result)) _ _ w (omega arith)
-    (counts _ _ _ _ _ _ _ _ _ _ _ _ _ _ _ _ _ _ w lt (c .before .before .before .before .mark-place32 .ensures))
+    ends _ _ _ _ _ _ _ _ _ _ _ _ _ _ (c .before .before .before .before .mark-counted32 .result) _ _
+    (c .before .before .before .before .before .before .before .before .loop .inv) (omega arith)
+    (c .before .before .before .before .mark-counted32 .ensures)
 
 pub mark-column-spec : {M : Type 1} → statement M
 mark-column-spec =
@@ -147,15 +126,13 @@ mark-column-spec =
     mul-layer
     place-within3-requires
     loop-holds
-    mark-place3-requires
-    cast-count
+    mark-counted3-requires
     add-count
     add-at
     sub-left
     loop-less
     loop-again
-    mark-place3-requires-2
-    cast-result
+    mark-counted3-requires-2
     add-result
     same-length
     same-length-2
