@@ -1,8 +1,7 @@
 -- The layer chart: what its numbers can be, and what each depends on. `Columns` has a column and the whole chart, `Order` that more odds give no lower
--- grade, `Examples` a chart computed; the two totals side by side stand in chart/specs/Totals, the limits as decimals in chart/proofs/Limits. Definitions only.
+-- grade; the two totals side by side stand in chart/specs/Totals, the limits as decimals in chart/proofs/Limits. Definitions only.
 pub mod Columns
 pub mod Order
-pub mod Examples
 use Prim.Native.Nat.{ℕ, _+_, _*_, _≤_, _<_}
 use mathlib.Core.Path.{_≡_}
 use mathlib.Core.Bool.{Bool, _&&_, _||_}

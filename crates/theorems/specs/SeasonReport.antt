@@ -1,8 +1,7 @@
 -- The season report: night by night is all at once, and joining two reports is the report of the joined run; of the entries, refusals included.
--- `Accepted` and `Entries` have the proofs, `Examples` a report computed; the rules' sums, runs and tests stand in season/proofs. Definitions only.
+-- `Accepted` and `Entries` have the proofs; the rules' sums, runs and tests stand in season/proofs. Definitions only.
 pub mod Accepted
 pub mod Entries
-pub mod Examples
 use Prim.Native.Nat.{ℕ, _+_, _*_}
 use mathlib.Core.Path.{_≡_}
 use mathlib.Core.List.{List, _++_}

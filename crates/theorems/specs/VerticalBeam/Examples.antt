@@ -1,14 +1,15 @@
--- Vertical beams on a map of 2 by 2 by 3, at the ends of the profile and past them: by computation of the definitions.
+-- The general beam of a vertical one, on a map of 2 by 2 by 3 at the ends of the profile: it leaves what the vertical beam leaves (`Upright` of the rules' figures).
+-- By computation of the definitions.
 use Prim.Native.Nat.{ℕ}
 use mathlib.Core.Path.{_≡_, refl}
 use mathlib.Core.Bool.{Bool, true, false}
 use mathlib.Core.List.{List, [], _∷_}
 use lib.Ieee.{Float, binary64}
 use Rattle.rules.specs.Floats.{zeroF}
-use Rattle.rules.specs.RefusalNumbers.{Refusal, given, refused, badFrame, outsideProfile}
+use Rattle.rules.specs.RefusalNumbers.{given}
 use Rattle.rules.specs.RefusalNumbers.Entries.{Outcome, firstTooSmall, extentsRefusal, headRefusal, updateRayEntry}
 use Rattle.rules.specs.TheGridAndItsBounds.{Head, Grid, cutsBelow, cutsInBounds}
-use Rattle.rules.specs.VerticalBeam.{Vertical, inProfile, columnPlace, columnMarks, endsOccupied, cellsAbove, verticalMarks, updateVerticalEntry}
+use Rattle.rules.specs.VerticalBeam.{Vertical}
 use Rattle.theorems.specs.DemandThree.Examples.{plus, minus, model, opened}
 use Rattle.theorems.specs.VerticalBeam.{generalBeam}
 
@@ -26,9 +27,6 @@ fresh =
 abbrev beam : ℕ → ℕ → Bool → Vertical
 beam bottom top hit = record { x = 1; y = 0; bottom = bottom; top = top; hit = hit }
 
-abbrev sent : ℕ → Vertical → Outcome ℕ Grid
-sent frame b = updateVerticalEntry binary64 (head frame) b fresh
-
 abbrev general : Vertical → Outcome ℕ Grid
 general b = updateRayEntry binary64 (head 1) (generalBeam binary64 (2 ∷ 2 ∷ 3 ∷ []) b) fresh
 
@@ -44,46 +42,21 @@ column count a i b j c k =
           };
     }
 
-abbrev unmarked : Refusal → Outcome ℕ Grid
-unmarked r = record { answer = refused r; lent = fresh }
-
 pub record Cases : Type 0 where
-  -- The whole column, with cloud in its highest cell; the general beam leaves the same.
-  pub to-the-highest : sent 1 (beam 0 2 true) ≡ column 3 (minus 1 2) 2 (minus 1 2) 2 (plus 3 4) 3
+  -- The whole column, with cloud in its highest cell.
   pub general-too : general (beam 0 2 true) ≡ column 3 (minus 1 2) 2 (minus 1 2) 2 (plus 3 4) 3
   -- One cell is both ends.
-  pub one-cell : sent 1 (beam 1 1 true) ≡ column 1 zeroF 0 (plus 3 4) 3 zeroF 0
   pub one-cell-general : general (beam 1 1 true) ≡ column 1 zeroF 0 (plus 3 4) 3 zeroF 0
   -- A top of the extent: all clear, though it is a Hit; from the highest cell as well.
-  pub ran-out : sent 1 (beam 1 3 true) ≡ column 2 zeroF 0 (minus 1 2) 2 (minus 1 2) 2
   pub ran-out-general : general (beam 1 3 true) ≡ column 2 zeroF 0 (minus 1 2) 2 (minus 1 2) 2
-  pub ran-out-at-once : sent 1 (beam 2 3 true) ≡ column 1 zeroF 0 zeroF 0 (minus 1 2) 2
   pub ran-out-at-once-general : general (beam 2 3 true) ≡ column 1 zeroF 0 zeroF 0 (minus 1 2) 2
-  -- Past the extent, from the extent, downward, or off a side: 18.
-  pub too-high : sent 1 (beam 0 4 false) ≡ unmarked outsideProfile
-  pub from-the-face : sent 1 (beam 3 3 false) ≡ unmarked outsideProfile
-  pub downward : sent 1 (beam 2 1 true) ≡ unmarked outsideProfile
-  pub off-the-first-side : sent 1 (record { x = 2; y = 0; bottom = 0; top = 1; hit = true }) ≡ unmarked outsideProfile
-  pub off-the-second-side : sent 1 (record { x = 0; y = 2; bottom = 0; top = 1; hit = true }) ≡ unmarked outsideProfile
-  -- 9 is tried before 18.
-  pub frame-first : sent 0 (beam 0 4 false) ≡ unmarked badFrame
 
 pub cases : Cases
-unfolding opened firstTooSmall extentsRefusal cutsBelow cutsInBounds headRefusal updateRayEntry inProfile columnPlace columnMarks endsOccupied cellsAbove verticalMarks updateVerticalEntry
+unfolding opened firstTooSmall extentsRefusal cutsBelow cutsInBounds headRefusal updateRayEntry
 cases =
     record {
-      to-the-highest = refl;
       general-too = refl;
-      one-cell = refl;
       one-cell-general = refl;
-      ran-out = refl;
       ran-out-general = refl;
-      ran-out-at-once = refl;
       ran-out-at-once-general = refl;
-      too-high = refl;
-      from-the-face = refl;
-      downward = refl;
-      off-the-first-side = refl;
-      off-the-second-side = refl;
-      frame-first = refl;
     }

@@ -1,10 +1,12 @@
--- A season of two nights on two columns, and the refusals in their order: by computation of the definitions.
+-- Change request 12 by example: a season of two nights on two columns, the refusals in their order, and how large a report's numbers may be. One table,
+-- proved of the definitions by computation.
 use Prim.Native.Nat.{ℕ}
+use mathlib.Core.Bool.{Bool, true, false}
 use mathlib.Core.Path.{_≡_, refl}
 use mathlib.Core.List.{List, [], _∷_, _++_}
 use Rattle.rules.specs.RefusalNumbers.{given, refused, unequalSizes, tooManyCharts, badChart}
 use Rattle.rules.specs.SeasonReport.{nightColumn, night, plus, runReport, goodColumn, goodColumns, nineCounts, goodReportColumn, goodReport}
 use Rattle.rules.specs.SeasonReport.{emptyReport, startReportEntry, addChartsEntry, addChartEntry, joinReportsEntry}
 
 -- bands of 4, 4 and 0: 4 eighths by maximum overlap, 384 of 512 by random; and a clear column
 abbrev monday : List ℕ
@@ -17,7 +19,11 @@ tuesday = 8 ∷ 1 ∷ 0 ∷ 8 ∷ 512 ∷ 0 ∷ 3 ∷ 0 ∷ 3 ∷ 192 ∷ []
 abbrev both : List ℕ
 both = 0 ∷ 0 ∷ 0 ∷ 0 ∷ 1 ∷ 0 ∷ 0 ∷ 0 ∷ 1 ∷ 1 ∷ 768 ∷ 896 ∷ 1 ∷ 0 ∷ 0 ∷ 1 ∷ 0 ∷ 0 ∷ 0 ∷ 0 ∷ 0 ∷ 0 ∷ 192 ∷ 192 ∷ []
 
-pub record Cases : Type 0 where
+-- a report of one chart and one column, with these three numbers behind its nine counts
+abbrev oneNight : ℕ → ℕ → ℕ → Bool
+oneNight differ maximum random = goodReport 1 (1 ∷ 0 ∷ 0 ∷ 0 ∷ 0 ∷ 0 ∷ 0 ∷ 0 ∷ 0 ∷ differ ∷ maximum ∷ random ∷ []) 1
+
+pub record SeasonAnswers : Type 0 where
   pub started : startReportEntry 2 both ≡ record { answer = given 0; lent = emptyReport 2 }
   pub two-nights : addChartsEntry 0 (emptyReport 2) 2 (monday ++ tuesday) ≡ record { answer = given 2; lent = both }
   pub night-after-night : addChartEntry 1 (addChartEntry 0 (emptyReport 2) monday .lent) tuesday ≡ record { answer = given 2; lent = both }
@@ -31,10 +37,15 @@ pub record Cases : Type 0 where
   pub band-of-nine : addChartEntry 0 (emptyReport 1) (9 ∷ 0 ∷ 0 ∷ 9 ∷ 512 ∷ []) .answer ≡ refused badChart
   pub another-total : addChartEntry 0 (emptyReport 1) (1 ∷ 0 ∷ 0 ∷ 2 ∷ 64 ∷ []) .answer ≡ refused badChart
   pub unequal-reports : joinReportsEntry 2 both 0 (emptyReport 1) .answer ≡ refused unequalSizes
+  -- "whose other numbers exceed 512 a chart": 512 stands, 513 does not, each of the three
+  pub as-large-as-may-be : oneNight 512 512 512 ≡ true
+  pub differ-too-often : oneNight 513 512 512 ≡ false
+  pub maximum-too-large : oneNight 512 513 512 ≡ false
+  pub random-too-large : oneNight 512 512 513 ≡ false
 
-pub cases : Cases
+pub seasonAnswers : SeasonAnswers
 unfolding nightColumn night plus runReport goodColumn goodColumns nineCounts goodReportColumn goodReport startReportEntry addChartsEntry joinReportsEntry
-cases =
+seasonAnswers =
     record {
       started = refl;
       two-nights = refl;
@@ -47,4 +58,8 @@ cases =
       band-of-nine = refl;
       another-total = refl;
       unequal-reports = refl;
+      as-large-as-may-be = refl;
+      differ-too-often = refl;
+      maximum-too-large = refl;
+      random-too-large = refl;
     }

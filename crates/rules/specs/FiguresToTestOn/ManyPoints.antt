@@ -1,15 +1,16 @@
--- Points on a map and off it, in one call, and the refusals in their order: by computation of the definitions.
+-- Change request 4 by example: points on a map and off it, in one call, and the refusals in their order. One table, proved of the definitions by
+-- computation.
 use mathlib.Core.Path.{_≡_, refl}
 use mathlib.Core.List.{List, [], _∷_}
 use lib.Ieee.{Float, nan, binary64, round, add, sub, mul, lt, le, ofInt, toSigned}
 use Rattle.rules.specs.Floats.{zeroF, halfF, oneF, numberF}
 use Rattle.rules.specs.RefusalNumbers.{given, refused, badBuffer, unequalLists}
 use Rattle.rules.specs.RefusalNumbers.Entries.{Outcome, firstTooSmall, extentsRefusal, headRefusal}
 use Rattle.rules.specs.TheGridAndItsBounds.{cells, allAtLeast, allAtMost, fitsCapacity, stridesFrom, strides, onePerCell}
 use Rattle.rules.specs.Coordinates.{truncated, foldedAxis, stencilAxis, stencil, timesStrides, corners, cornerPlace, weighed, weighedWithout}
 use Rattle.rules.specs.Coordinates.{valueFrom, slopeFrom, gradientFrom, sampleAt, sample}
 use Rattle.rules.specs.ManySamples.{Slots, slotsAll, foundAll, sampledAll, sameCounts, sampleAllLogOddsEntry}
-use Rattle.theorems.specs.DemandThree.Examples.{plus, head2}
+use Rattle.rules.specs.FiguresToTestOn.{plus, headOf}
 
 -- the odds of a map of 2 by 2: 0, 1, 2, 3
 abbrev upTo3 : List Float
@@ -24,9 +25,9 @@ abbrev held : Slots
 held = record { samples = plus 10 1 ∷ plus 11 1 ∷ plus 12 1 ∷ plus 13 1 ∷ nan ∷ plus 15 1 ∷ plus 16 1 ∷ plus 17 1 ∷ plus 18 1 ∷ []; found = 9 ∷ 9 ∷ 9 ∷ [] }
 
 abbrev asked : List Float → List Float → Slots → Outcome (Unit {0}) Slots
-asked points odds s = sampleAllLogOddsEntry binary64 head2 points odds s
+asked points odds s = sampleAllLogOddsEntry binary64 (headOf 2 2 1) points odds s
 
-pub record Cases : Type 0 where
+pub record ManyPointsAnswers : Type 0 where
   -- Value, then gradient; the slot of nothing keeps what it held, NaN too.
   pub two-of-three :
       asked three upTo3 held
@@ -47,6 +48,6 @@ pub record Cases : Type 0 where
   -- 4 is tried before 14.
   pub buffer-first : asked [] (oneF ∷ []) held ≡ record { answer = refused badBuffer; lent = held }
 
-pub cases : Cases
+pub manyPointsAnswers : ManyPointsAnswers
 unfolding numberF cells allAtLeast allAtMost fitsCapacity stridesFrom strides onePerCell truncated foldedAxis stencilAxis stencil timesStrides corners cornerPlace weighed weighedWithout valueFrom slopeFrom gradientFrom sampleAt sample firstTooSmall extentsRefusal headRefusal slotsAll foundAll sampledAll sameCounts sampleAllLogOddsEntry round add sub mul lt le ofInt toSigned
-cases = record { two-of-three = refl; no-points = refl; point-too-few = refl; number-too-many = refl; mark-too-few = refl; buffer-first = refl }
+manyPointsAnswers = record { two-of-three = refl; no-points = refl; point-too-few = refl; number-too-many = refl; mark-too-few = refl; buffer-first = refl }
