@@ -22,7 +22,7 @@ use lib.ListN.{length, getD}
 use lib.Ieee.{Float, nan, inf, fin, Format, up, down, binary32, binary64, sub, neg, lt, le, fits}
 use Rattle.rules.specs.RefusalNumbers.{given}
 use Rattle.rules.specs.TheGridAndItsBounds.{Pair, Model, Head, Grid, cells, extentsInBounds, allPairs, bounded, floor, onePerCell}
-use Rattle.rules.specs.MarksAndFrames.{Steps, Mark, stepsAt, stampOf, frameOf, freed, occupiedStep, occupy, cellAt, openedFrame, openedStamps, openFrame}
+use Rattle.rules.specs.MarksAndFrames.{Steps, Mark, stepsAt, stampOf, frameOf, freed, occupiedStep, occupy, cellAt, openedFrame, openedStamps}
 use Rattle.rules.specs.OneBeam.{Beam, Integrated, beamMarks, integrated}
 
 -- ---- a sweep
@@ -63,10 +63,9 @@ unfoldable pub oddsWithin : Model → Float → Bool
 oddsWithin m o = le (floor m) o && le o (m .ceiling)
 
 pub record Sweep (f : Format) (h : Head) (g : Grid) (bs : List Beam) : Type 0 where
-  -- The head is valid: its extents, its model and its frame are within their bounds.
+  -- The head is valid: its extents and its model are within their bounds. Its frame may be any: `begin_scan` opens frame 1 after 0 and after the highest or above.
   pub extents : T (extentsInBounds (h .extents))
   pub model : T (bounded (h .model))
-  pub frame : T (openFrame (h .frame))
   -- There is one odds number and one stamp for each cell.
   pub odds-per-cell : T (onePerCell (h .extents) (length (g .odds)))
   pub stamps-per-cell : T (onePerCell (h .extents) (length (g .stamps)))

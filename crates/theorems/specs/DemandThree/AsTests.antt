@@ -13,7 +13,7 @@ use lib.Ieee.{nan, Format}
 use lib.Ieee.Fits.{and-l, and-r, eq→eqb}
 use Rattle.rules.specs.RefusalNumbers.{Answer, given, refused}
 use Rattle.rules.specs.TheGridAndItsBounds.{Head, Grid, cells, extentsInBounds, bounded, onePerCell}
-use Rattle.rules.specs.MarksAndFrames.{Mark, stepsAt, frameOf, openFrame}
+use Rattle.rules.specs.MarksAndFrames.{Mark, stepsAt, frameOf}
 use Rattle.rules.specs.OneBeam.{Beam, beamMarks}
 use Rattle.theorems.specs.DemandThree.Proof.{opened-length}
 use Rattle.theorems.specs.DemandThree.{frameOpened, gridOpened, Sweep, Multiples, oddsWithin, ofUnits, modelOfUnits, clearOfFloor}
@@ -34,7 +34,7 @@ isGiven (refused r) = false
 -- the premises that a sweep and its grid have to meet, and those of the last sentence
 abbrev pub sweepTests : Format → Head → Grid → List Beam → List Bool
 sweepTests f h g bs =
-    extentsInBounds (h .extents) ∷ bounded (h .model) ∷ openFrame (h .frame)
+    extentsInBounds (h .extents) ∷ bounded (h .model)
     ∷ onePerCell (h .extents) (length (g .odds)) ∷ onePerCell (h .extents) (length (g .stamps))
     ∷ every (oddsWithin (h .model)) (g .odds) ∷ every (λ t. not (eqb (frameOf t) (frameOpened h))) (gridOpened h g .stamps)
     ∷ every (λ b. isGiven (beamMarks f (h .extents) b)) bs ∷ []
@@ -79,33 +79,30 @@ sweep-holds f h g bs t₀ =
     let es = h .extents in
     let a₀ = extentsInBounds es in
     let a₁ = bounded (h .model) in
-    let a₂ = openFrame (h .frame) in
-    let a₃ = onePerCell es (length (g .odds)) in
-    let a₄ = onePerCell es (length (g .stamps)) in
-    let a₅ = every (oddsWithin (h .model)) (g .odds) in
-    let a₆ = every (λ t. not (eqb (frameOf t) (frameOpened h))) (gridOpened h g .stamps) in
-    let a₇ = every (λ b. isGiven (beamMarks f (h .extents) b)) bs in
-    let t₁ = rest a₀ (a₁ ∷ a₂ ∷ a₃ ∷ a₄ ∷ a₅ ∷ a₆ ∷ a₇ ∷ []) t₀ in
-    let t₂ = rest a₁ (a₂ ∷ a₃ ∷ a₄ ∷ a₅ ∷ a₆ ∷ a₇ ∷ []) t₁ in
-    let t₃ = rest a₂ (a₃ ∷ a₄ ∷ a₅ ∷ a₆ ∷ a₇ ∷ []) t₂ in
-    let t₄ = rest a₃ (a₄ ∷ a₅ ∷ a₆ ∷ a₇ ∷ []) t₃ in
-    let t₅ = rest a₄ (a₅ ∷ a₆ ∷ a₇ ∷ []) t₄ in
-    let t₆ = rest a₅ (a₆ ∷ a₇ ∷ []) t₅ in
-    let t₇ = rest a₆ (a₇ ∷ []) t₆ in
-    let n : length (g .odds) ≡ cells es = eqb→eq (length (g .odds)) (cells es) (first a₃ (a₄ ∷ a₅ ∷ a₆ ∷ a₇ ∷ []) t₃) in
-    let m : length (g .stamps) ≡ cells es = eqb→eq (length (g .stamps)) (cells es) (first a₄ (a₅ ∷ a₆ ∷ a₇ ∷ []) t₄) in
+    let a₂ = onePerCell es (length (g .odds)) in
+    let a₃ = onePerCell es (length (g .stamps)) in
+    let a₄ = every (oddsWithin (h .model)) (g .odds) in
+    let a₅ = every (λ t. not (eqb (frameOf t) (frameOpened h))) (gridOpened h g .stamps) in
+    let a₆ = every (λ b. isGiven (beamMarks f (h .extents) b)) bs in
+    let t₁ = rest a₀ (a₁ ∷ a₂ ∷ a₃ ∷ a₄ ∷ a₅ ∷ a₆ ∷ []) t₀ in
+    let t₂ = rest a₁ (a₂ ∷ a₃ ∷ a₄ ∷ a₅ ∷ a₆ ∷ []) t₁ in
+    let t₃ = rest a₂ (a₃ ∷ a₄ ∷ a₅ ∷ a₆ ∷ []) t₂ in
+    let t₄ = rest a₃ (a₄ ∷ a₅ ∷ a₆ ∷ []) t₃ in
+    let t₅ = rest a₄ (a₅ ∷ a₆ ∷ []) t₄ in
+    let t₆ = rest a₅ (a₆ ∷ []) t₅ in
+    let n : length (g .odds) ≡ cells es = eqb→eq (length (g .odds)) (cells es) (first a₂ (a₃ ∷ a₄ ∷ a₅ ∷ a₆ ∷ []) t₂) in
+    let m : length (g .stamps) ≡ cells es = eqb→eq (length (g .stamps)) (cells es) (first a₃ (a₄ ∷ a₅ ∷ a₆ ∷ []) t₃) in
     record {
-      extents = first a₀ (a₁ ∷ a₂ ∷ a₃ ∷ a₄ ∷ a₅ ∷ a₆ ∷ a₇ ∷ []) t₀;
-      model = first a₁ (a₂ ∷ a₃ ∷ a₄ ∷ a₅ ∷ a₆ ∷ a₇ ∷ []) t₁;
-      frame = first a₂ (a₃ ∷ a₄ ∷ a₅ ∷ a₆ ∷ a₇ ∷ []) t₂;
-      odds-per-cell = first a₃ (a₄ ∷ a₅ ∷ a₆ ∷ a₇ ∷ []) t₃;
-      stamps-per-cell = first a₄ (a₅ ∷ a₆ ∷ a₇ ∷ []) t₄;
-      within = λ i l. every-at (oddsWithin (h .model)) nan (g .odds) (first a₅ (a₆ ∷ a₇ ∷ []) t₅) i (omega arith);
+      extents = first a₀ (a₁ ∷ a₂ ∷ a₃ ∷ a₄ ∷ a₅ ∷ a₆ ∷ []) t₀;
+      model = first a₁ (a₂ ∷ a₃ ∷ a₄ ∷ a₅ ∷ a₆ ∷ []) t₁;
+      odds-per-cell = first a₂ (a₃ ∷ a₄ ∷ a₅ ∷ a₆ ∷ []) t₂;
+      stamps-per-cell = first a₃ (a₄ ∷ a₅ ∷ a₆ ∷ []) t₃;
+      within = λ i l. every-at (oddsWithin (h .model)) nan (g .odds) (first a₄ (a₅ ∷ a₆ ∷ []) t₄) i (omega arith);
       unstamped =
           λ i l e. T-not (eqb (frameOf (getD (gridOpened h g .stamps) i 0)) (frameOpened h))
-          (every-at (λ t. not (eqb (frameOf t) (frameOpened h))) 0 (gridOpened h g .stamps) (first a₆ (a₇ ∷ []) t₆) i (omega (arith, opened-length (h .frame) (g .stamps))))
+          (every-at (λ t. not (eqb (frameOf t) (frameOpened h))) 0 (gridOpened h g .stamps) (first a₅ (a₆ ∷ []) t₅) i (omega (arith, opened-length (h .frame) (g .stamps))))
           (eq→eqb e);
-      taken = λ b d. is-given (beamMarks f es b) (every-of (λ b. isGiven (beamMarks f es b)) bs (first a₇ [] t₇) b d);
+      taken = λ b d. is-given (beamMarks f es b) (every-of (λ b. isGiven (beamMarks f es b)) bs (first a₆ [] t₆) b d);
     }
 
 pub multiples-hold : (f : Format) (h : Head) (g : Grid) → T (onePerCell (h .extents) (length (g .odds))) → T (allPass (multiplesTests f h g)) → Multiples f h g

@@ -9,15 +9,15 @@ use native.Mathlib.Omega.{arith}
 use lib.Dec.{T, ltb, leb, eqb, leb→le, ltb→lt}
 use lib.Ieee.{Float, Format}
 use lib.Ieee.Fits.{and-l, and-r}
-use lib.ListN.{length, length-replicate, replicate}
+use lib.ListN.{length}
 use borrow.Author.Tests.{le-ltb, lt-ltb, le-leb, leb-false}
 use Rattle.rules.specs.RefusalNumbers.{Refusal, given}
 use Rattle.rules.specs.RefusalNumbers.Entries.{firstTooSmall, extentsRefusal, headRefusal, Uses, Outcome, ofIntegrated, usesOf, begin-scan, beams, beginScanEntry, updateScanEntry, updateBeamsEntry}
 use Rattle.rules.specs.TheGridAndItsBounds.{Model, Head, Grid, leastExtent, allAtLeast, fitsCapacity, extentsInBounds, bounded, cutsInBounds, onePerCell}
-use Rattle.rules.specs.MarksAndFrames.{highestFrame, openFrame, openedFrame, openedStamps}
+use Rattle.rules.specs.MarksAndFrames.{highestFrame, openFrame, openedFrame}
 use Rattle.rules.specs.OneBeam.{Beam, flatShape, beamsOf}
 use Rattle.theorems.specs.DemandThree.{Sweep, Settled, frameOpened, gridOpened, sweep}
-use Rattle.theorems.specs.DemandThree.Proof.{demand-three}
+use Rattle.theorems.specs.DemandThree.Proof.{demand-three, opened-length}
 use Rattle.theorems.specs.FlatList.{is-true, flat-as-structs}
 
 -- the head of a map with its sweep opened
@@ -45,21 +45,13 @@ opened-open k = go (leb highestFrame k) refl
     go true e = refl
     go false e = let l = leb-false highestFrame k e in rw (lt-ltb 0 (k + 1) (omega arith), le-leb (k + 1) highestFrame (omega arith)) refl
 
-opened-length : (k : ℕ) (stamps : List ℕ) → length (openedStamps k stamps) ≡ length stamps
-unfolding openedStamps
-opened-length k stamps = go (leb highestFrame k)
-  where
-    go : (b : Bool) → length (cond b (replicate (length stamps) 0) stamps) ≡ length stamps
-    go true = length-replicate (length stamps) 0
-    go false = refl
-
 module _ (f : Format) (h : Head) (g : Grid) (bs : List Beam) (s : Sweep f h g bs) where
   -- `begin_scan` opens the sweep
   pub begins : beginScanEntry h (g .stamps) ≡ record { answer = given (headOpened h); lent = gridOpened h g .stamps }
   unfolding beginScanEntry headRefusal
   begins = rw (extents-pass (h .extents) (s .extents), is-true (onePerCell (h .extents) (length (g .stamps))) (s .stamps-per-cell)) refl
 
-  -- a slice of beams then leaves what the theorem speaks of; the entry tries the cuts too
+  -- A slice of beams then leaves what the theorem speaks of. That the cuts are in bounds is no premise of demand 3: it is what the entry itself checks (15).
   pub integrates : T (cutsInBounds (h .extents) (h .model)) → updateBeamsEntry f (headOpened h) bs (gridOpened h g) ≡ ofIntegrated (sweep f h g bs)
   unfolding updateBeamsEntry headRefusal
   integrates cuts =

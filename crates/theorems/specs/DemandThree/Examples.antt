@@ -1,6 +1,6 @@
 -- Demand 3 is not empty: a sweep of two beams on a map of two axes and on one of three, in both formats, that meets every premise.
 -- By computation of the definitions.
-use Prim.Native.Nat.{ℕ}
+use Prim.Native.Nat.{ℕ, _+_}
 use mathlib.Core.Bool.{true, false}
 use mathlib.Core.List.{List, [], _∷_, _++_}
 use lib.ListN.{replicate}
@@ -12,7 +12,7 @@ use Rattle.rules.specs.Coordinates.{truncated, truncatedPoint, within, along, o
 use Rattle.rules.specs.TheLine.{delta, deltas, larger, primaryFrom, primaryOf, increment, stepTo, axisOf, axesOf, thresholdOf, cellsYielded, lineBetween, plotter}
 use Rattle.rules.specs.TheLine.{otherAfter, primaryAfter, axisAfter, axesAfter, lastStep, earlierStep, stepOf, cellsWithin, lineCells}
 use Rattle.rules.specs.MarksAndFrames.{stepsAt, stampOf, clamp, limited, freed, markFree, occupiedStep, occupy, markOccupied, markCell, markAt, marked, changes}
-use Rattle.rules.specs.MarksAndFrames.{openedFrame, openedStamps, openFrame}
+use Rattle.rules.specs.MarksAndFrames.{highestFrame, openedFrame, openedStamps, openFrame}
 use Rattle.rules.specs.OneBeam.{Beam, largerOf, smallerOf, cutTo, slab, slabs, directions, pointAt, bothBeyond, allWithin, isInside, clampAxis, clampPoint}
 use Rattle.rules.specs.OneBeam.{clippedAt, clip, marksAlong, marksBetween, beamMarks, integratedBeam, integratedFrom, integrated}
 use Rattle.theorems.specs.DemandThree.{Sweep, Multiples, multiple, oddsWithin, ofUnits, pairOfUnits, modelOfUnits, clearOfFloor}
@@ -43,6 +43,10 @@ bands =
 abbrev pub head2 : Head
 head2 = record { extents = 2 ∷ 2 ∷ []; model = model; frame = 1 }
 
+-- the same map in any frame
+abbrev inFrame : ℕ → Head
+inFrame k = record { extents = 2 ∷ 2 ∷ []; model = model; frame = k }
+
 abbrev head3 : Head
 head3 = record { extents = 2 ∷ 2 ∷ 3 ∷ []; model = bands; frame = 1 }
 
@@ -59,6 +63,9 @@ odds4 = minus 4 1 ∷ minus 13 4 ∷ zeroF ∷ plus 15 4 ∷ []
 
 abbrev grid2 : Grid
 grid2 = record { odds = odds4; stamps = 0 ∷ 1 ∷ 2 ∷ 3 ∷ [] }
+
+abbrev grid0 : Grid
+grid0 = record { odds = odds4; stamps = 0 ∷ 0 ∷ 7 ∷ 1 ∷ [] }
 
 abbrev grid3 : Grid
 grid3 = record { odds = odds4 ++ odds4 ++ odds4; stamps = 0 ∷ 1 ∷ 2 ∷ 3 ∷ replicate 8 0 }
@@ -115,6 +122,21 @@ two-axes =
     record {
       in-binary64 = (sweep-holds binary64 head2 grid2 (clear [] ∷ cloud [] ∷ []) tt, multiples-hold binary64 head2 grid2 tt tt);
       in-binary32 = (sweep-holds binary32 head2 grid2 (clear [] ∷ cloud [] ∷ []) tt, multiples-hold binary32 head2 grid2 tt tt);
+    }
+
+-- in frame 0, in the highest and above it too: frame 1 is opened, after 0 with the stamps as they were lent
+pub record AnyFrame : Type 0 where
+  pub none-yet : Sweep binary64 (inFrame 0) grid0 (clear [] ∷ cloud [] ∷ [])
+  pub highest : Sweep binary64 (inFrame highestFrame) grid2 (clear [] ∷ cloud [] ∷ [])
+  pub above : Sweep binary64 (inFrame (highestFrame + 1)) grid2 (clear [] ∷ cloud [] ∷ [])
+
+pub any-frame : AnyFrame
+unfolding opened
+any-frame =
+    record {
+      none-yet = sweep-holds binary64 (inFrame 0) grid0 (clear [] ∷ cloud [] ∷ []) tt;
+      highest = sweep-holds binary64 (inFrame highestFrame) grid2 (clear [] ∷ cloud [] ∷ []) tt;
+      above = sweep-holds binary64 (inFrame (highestFrame + 1)) grid2 (clear [] ∷ cloud [] ∷ []) tt;
     }
 
 pub three-axes : Meets head3 grid3 (clear (halfF ∷ []) ∷ cloud (halfF ∷ []) ∷ [])

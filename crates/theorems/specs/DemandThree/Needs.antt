@@ -1,5 +1,5 @@
 -- No premise that demand 3 draws on can be left out: for each, an example that fails this premise alone, and where a conclusion fails with it.
--- (That the extents and the frame are in bounds is asked by every entry; the conclusions do not turn on it.) By computation of the definitions.
+-- (That the extents are in bounds is asked by every entry; the conclusions do not turn on it.) By computation of the definitions.
 use Prim.Native.Nat.{ℕ}
 use mathlib.Core.Path.{_≡_, refl}
 use mathlib.Core.Bool.{Bool, true, false}
@@ -34,7 +34,7 @@ testsOf f m o = sweepTests f (with m) (lent o 0) (clear [] ∷ cloud [] ∷ []) 
 
 -- all tests pass but one
 abbrev allBut : ℕ → List Bool
-allBut i = set (replicate 11 true) i false
+allBut i = set (replicate 10 true) i false
 
 -- occupied 0.01, free -0.02, ceiling 4: no multiples of the unit
 abbrev decimal : Model
@@ -61,35 +61,35 @@ pub record Needed : Type 0 where
   pub model-fails : testsOf binary64 upward (plus 15 4) ≡ allBut 1
   pub model-needed : (clearFirst binary64 upward (plus 15 4) ≡ plus 15 4) × (cloudFirst binary64 upward (plus 15 4) ≡ plus 4 1)
   -- No stamp for a cell: it was hit, and ends with none.
-  pub stamps-fail : sweepTests binary64 head2 unstampable (cloud [] ∷ []) ++ multiplesTests binary64 head2 unstampable ≡ allBut 4
+  pub stamps-fail : sweepTests binary64 head2 unstampable (cloud [] ∷ []) ++ multiplesTests binary64 head2 unstampable ≡ allBut 3
   pub stamps-needed : cellAt (sweep binary64 head2 unstampable (cloud [] ∷ []) .grid) 1 .stamp ≡ 0
   -- Odds below the floor, -10: in one order the cell ends at -3.25, in the other on the floor.
-  pub within-fails : testsOf binary64 model (minus 10 1) ≡ allBut 5
+  pub within-fails : testsOf binary64 model (minus 10 1) ≡ allBut 4
   pub within-needed : (clearFirst binary64 model (minus 10 1) ≡ minus 13 4) × (cloudFirst binary64 model (minus 10 1) ≡ minus 4 1)
   -- A stamp of the new frame: a cell that was touched and not hit takes no clear step, and a cloud stamp stays.
-  pub unstamped-fails : sweepTests binary64 head2 (lent zeroF 4) (clear [] ∷ []) ++ multiplesTests binary64 head2 (lent zeroF 4) ≡ allBut 6
+  pub unstamped-fails : sweepTests binary64 head2 (lent zeroF 4) (clear [] ∷ []) ++ multiplesTests binary64 head2 (lent zeroF 4) ≡ allBut 5
   pub unstamped-needed :
       (cellAt (sweep binary64 head2 (lent zeroF 4) (clear [] ∷ []) .grid) 1 .odds ≡ zeroF)
       × (cellAt (sweep binary64 head2 (lent zeroF 5) (clear [] ∷ []) .grid) 1 .stamp ≡ 5)
   -- A beam that is refused stops the list, so the stamps turn on where it stands.
-  pub taken-fails : sweepTests binary64 head2 (lent zeroF 0) (broken ∷ cloud [] ∷ []) ++ multiplesTests binary64 head2 (lent zeroF 0) ≡ allBut 7
+  pub taken-fails : sweepTests binary64 head2 (lent zeroF 0) (broken ∷ cloud [] ∷ []) ++ multiplesTests binary64 head2 (lent zeroF 0) ≡ allBut 6
   pub taken-needed :
       (sweep binary64 head2 (lent zeroF 0) (broken ∷ cloud [] ∷ []) .grid .stamps ≡ 0 ∷ 0 ∷ 0 ∷ 0 ∷ [])
       × (sweep binary64 head2 (lent zeroF 0) (cloud [] ∷ broken ∷ []) .grid .stamps ≡ 4 ∷ 5 ∷ 0 ∷ 0 ∷ [])
   -- Steps that are no multiples, occupied 0.01 and free -0.02, odds 0: 0.009999999999999998 and 0.01.
-  pub steps-fail : testsOf binary64 decimal zeroF ≡ allBut 8
+  pub steps-fail : testsOf binary64 decimal zeroF ≡ allBut 7
   pub steps-needed :
       (clearFirst binary64 decimal zeroF ≡ ofBits binary64 0x3f847ae147ae147a) × (cloudFirst binary64 decimal zeroF ≡ ofBits binary64 0x3f847ae147ae147b)
   -- A ceiling above binary32's largest size: odds 65536 + 2 ^ -7 end at 65536 + 2 ^ -7 and at 65536 + 2 ^ -6.
-  pub size-fails : testsOf binary32 wide (plus 8388609 128) ≡ allBut 8
+  pub size-fails : testsOf binary32 wide (plus 8388609 128) ≡ allBut 7
   pub size-needed :
       (clearFirst binary32 wide (plus 8388609 128) ≡ fin false 8388609 (negsuc 6)) × (cloudFirst binary32 wide (plus 8388609 128) ≡ fin false 4194305 (negsuc 5))
   -- Odds that are no multiple, -0.3: 0.44999999999999996 and 0.45.
-  pub odds-fail : testsOf binary64 model (minus 3 10) ≡ allBut 9
+  pub odds-fail : testsOf binary64 model (minus 3 10) ≡ allBut 8
   pub odds-needed :
       (clearFirst binary64 model (minus 3 10) ≡ ofBits binary64 0x3fdccccccccccccc) × (cloudFirst binary64 model (minus 3 10) ≡ ofBits binary64 0x3fdccccccccccccd)
   -- Exactly one clear step above the floor, -3.5: -3.25 and -2.75.
-  pub floor-fails : testsOf binary64 model (minus 7 2) ≡ allBut 10
+  pub floor-fails : testsOf binary64 model (minus 7 2) ≡ allBut 9
   pub floor-needed : (clearFirst binary64 model (minus 7 2) ≡ minus 13 4) × (cloudFirst binary64 model (minus 7 2) ≡ minus 11 4)
 
 pub needed : Needed
