@@ -62,7 +62,7 @@ pub record SameBeams (bs cs : List Beam) : Type 0 where
 unfoldable pub oddsWithin : Model → Float → Bool
 oddsWithin m o = le (floor m) o && le o (m .ceiling)
 
-pub record Sweep (f : Format) (h : Head) (g : Grid) (bs : List Beam) : Type 0 where
+pub record Opened (h : Head) (g : Grid) : Type 0 where
   -- The head is valid: its extents and its model are within their bounds. Its frame may be any: `begin_scan` opens frame 1 after 0 and after the highest or above.
   pub extents : T (extentsInBounds (h .extents))
   pub model : T (bounded (h .model))
@@ -73,6 +73,10 @@ pub record Sweep (f : Format) (h : Head) (g : Grid) (bs : List Beam) : Type 0 wh
   pub within : (i : ℕ) → i < cells (h .extents) → T (oddsWithin (h .model) (getD (g .odds) i nan))
   -- As the sweep opens, no stamp bears its frame.
   pub unstamped : (i : ℕ) → i < cells (h .extents) → ¬ (frameOf (getD (gridOpened h g .stamps) i 0) ≡ frameOpened h)
+
+pub record Sweep (f : Format) (h : Head) (g : Grid) (bs : List Beam) : Type 0 where
+  -- The sweep is properly opened.
+  pub opened : Opened h g
   -- No beam is refused.
   pub taken : (b : Beam) → List·Memᴰ b bs → (xs : List Mark) × (beamMarks f (h .extents) b ≡ given xs)
 
@@ -126,23 +130,28 @@ cloudAlone f s o = occupy f s o (s .occupied)
 abbrev pub cloudAfterClear : Format → Steps → ℕ → Float → Float
 cloudAfterClear f s k o = occupy f s (freed f s o) (occupiedStep f s k (record { odds = freed f s o; stamp = stampOf k false }))
 
+-- how each cell stands on the grid that is left after these beams
+pub record Ends (f : Format) (h : Head) (g : Grid) (bs : List Beam) (after : Grid) : Type 0 where
+  -- A cell that a beam hit ends stamped cloud.
+  pub hit-stamp : (i : ℕ) → i < cells (h .extents) → Hit f (h .extents) bs i → cellAt after i .stamp ≡ stampOf (frameOpened h) true
+  -- A cell that was touched, and that no beam hit, ends stamped clear.
+  pub clear-stamp : (i : ℕ) → i < cells (h .extents) → Touched f (h .extents) bs i → ¬ Hit f (h .extents) bs i
+      → cellAt after i .stamp ≡ stampOf (frameOpened h) false
+  -- Any other cell keeps its odds, and its stamp as the sweep opened.
+  pub untouched : (i : ℕ) → i < cells (h .extents) → ¬ Touched f (h .extents) bs i → cellAt after i ≡ cellAt (gridOpened h g) i
+  -- A clear cell took one clear step.
+  pub clear-odds : (i : ℕ) → i < cells (h .extents) → Touched f (h .extents) bs i → ¬ Hit f (h .extents) bs i
+      → cellAt after i .odds ≡ freed f (stepsAt (h .model) i) (getD (g .odds) i nan)
+  -- A cloud cell took the cloud step, with at most one clear step before it, taken back by the stated rule.
+  pub cloud-odds : (i : ℕ) → i < cells (h .extents) → Hit f (h .extents) bs i
+      → (cellAt after i .odds ≡ cloudAlone f (stepsAt (h .model) i) (getD (g .odds) i nan))
+      ⊎ (cellAt after i .odds ≡ cloudAfterClear f (stepsAt (h .model) i) (frameOpened h) (getD (g .odds) i nan))
+
 pub record Settled (f : Format) (h : Head) (g : Grid) (bs : List Beam) : Type 0 where
   -- The list is not refused.
   pub given-a-count : (n : ℕ) × (sweep f h g bs .answer ≡ given n)
-  -- A cell that a beam hit ends stamped cloud.
-  pub hit-stamp : (i : ℕ) → i < cells (h .extents) → Hit f (h .extents) bs i → cellAt (sweep f h g bs .grid) i .stamp ≡ stampOf (frameOpened h) true
-  -- A cell that was touched, and that no beam hit, ends stamped clear.
-  pub clear-stamp : (i : ℕ) → i < cells (h .extents) → Touched f (h .extents) bs i → ¬ Hit f (h .extents) bs i
-      → cellAt (sweep f h g bs .grid) i .stamp ≡ stampOf (frameOpened h) false
-  -- Any other cell keeps its odds, and its stamp as the sweep opened.
-  pub untouched : (i : ℕ) → i < cells (h .extents) → ¬ Touched f (h .extents) bs i → cellAt (sweep f h g bs .grid) i ≡ cellAt (gridOpened h g) i
-  -- A clear cell took one clear step.
-  pub clear-odds : (i : ℕ) → i < cells (h .extents) → Touched f (h .extents) bs i → ¬ Hit f (h .extents) bs i
-      → cellAt (sweep f h g bs .grid) i .odds ≡ freed f (stepsAt (h .model) i) (getD (g .odds) i nan)
-  -- A cloud cell took the cloud step, with at most one clear step before it, taken back by the stated rule.
-  pub cloud-odds : (i : ℕ) → i < cells (h .extents) → Hit f (h .extents) bs i
-      → (cellAt (sweep f h g bs .grid) i .odds ≡ cloudAlone f (stepsAt (h .model) i) (getD (g .odds) i nan))
-      ⊎ (cellAt (sweep f h g bs .grid) i .odds ≡ cloudAfterClear f (stepsAt (h .model) i) (frameOpened h) (getD (g .odds) i nan))
+  -- Each cell ends as it should.
+  pub ends : Ends f h g bs (sweep f h g bs .grid)
   -- The same beams in any order and with any repeats leave the same stamps; so do the beams in another order, and with one repeated.
   pub stamps-same : (cs : List Beam) → SameBeams bs cs → sweep f h g bs .grid .stamps ≡ sweep f h g cs .grid .stamps
   pub stamps-permuted : (cs : List Beam) → List·Permᴰ bs cs → sweep f h g bs .grid .stamps ≡ sweep f h g cs .grid .stamps

@@ -10,7 +10,7 @@ use mathlib.Core.List.{List}
 use Rattle.rules.specs.TheGridAndItsBounds.{Head, Grid, cells}
 use Rattle.rules.specs.MarksAndFrames.{stepsAt, cellAt}
 use Rattle.rules.specs.OneBeam.{Beam}
-use Rattle.theorems.specs.DemandThree.{sweep, Hit, ofUnits, modelOfUnits, cloudAlone}
+use Rattle.theorems.specs.DemandThree.{Hit, ofUnits, modelOfUnits, cloudAlone}
 
 -- ---- the premises, beside those of a sweep (`DemandThree.Sweep`): demand 3's of its last sentence, but for the floor's
 pub record InUnits (f : Format) (h : Head) (g : Grid) : Type 0 where
@@ -24,13 +24,10 @@ pub record InUnits (f : Format) (h : Head) (g : Grid) : Type 0 where
 abbrev pub loneVote : Format → Head → Grid → ℕ → Float
 loneVote f h g i = cloudAlone f (stepsAt (h .model) i) (getD (g .odds) i nan)
 
--- what the sweep leaves of it
-abbrev pub oddsAfter : Format → Head → Grid → List Beam → ℕ → Float
-oddsAfter f h g bs i = cellAt (sweep f h g bs .grid) i .odds
-
-pub record FloorCost (f : Format) (h : Head) (g : Grid) (bs : List Beam) : Type 0 where
+-- of the grid that is left after these beams
+pub record FloorCost (f : Format) (h : Head) (g : Grid) (bs : List Beam) (after : Grid) : Type 0 where
   -- A cell that a beam hit ends no higher than a lone cloud vote would leave it,
-  pub no-higher : (i : ℕ) → i < cells (h .extents) → Hit f (h .extents) bs i → T (le (oddsAfter f h g bs i) (loneVote f h g i))
+  pub no-higher : (i : ℕ) → i < cells (h .extents) → Hit f (h .extents) bs i → T (le (cellAt after i .odds) (loneVote f h g i))
   -- and no lower than that and one clear step, which is below zero. The sum is exact: both are multiples of the unit, far below the format's largest whole number of units.
   pub one-clear-step : (i : ℕ) → i < cells (h .extents) → Hit f (h .extents) bs i
-      → T (le (add f (loneVote f h g i) (stepsAt (h .model) i .free)) (oddsAfter f h g bs i))
+      → T (le (add f (loneVote f h g i) (stepsAt (h .model) i .free)) (cellAt after i .odds))

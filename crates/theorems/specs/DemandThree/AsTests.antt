@@ -1,7 +1,7 @@
 -- Demand 3's premises as tests, one for each, in the order of the premises' records: where all pass, the premises hold.
 -- For examples, where the tests compute. Assumes nothing.
 use mathlib.Core.Path.{_≡_, refl, sym, subst}
-use mathlib.Core.List.{List, [], _∷_, List·Memᴰ, List·Memᴰ·cases-cons, List·Memᴰ·not-nil}
+use mathlib.Core.List.{List, [], _∷_, _++_, List·Memᴰ, List·Memᴰ·cases-cons, List·Memᴰ·not-nil}
 use mathlib.Core.Logic.{inl, inr}
 use mathlib.Core.Bool.{Bool, true, false, not, _&&_}
 use Prim.Native.Nat.{ℕ, zero, suc, _+_, _<_}
@@ -10,13 +10,13 @@ use native.Mathlib.Omega.{arith}
 use lib.Dec.{T, eqb, eqb→eq, T-not}
 use lib.ListN.{length, getD}
 use lib.Ieee.{nan, Format}
-use lib.Ieee.Fits.{and-l, and-r, eq→eqb}
+use lib.Ieee.Fits.{and-i, and-l, and-r, eq→eqb}
 use Rattle.rules.specs.RefusalNumbers.{Answer, given, refused}
 use Rattle.rules.specs.TheGridAndItsBounds.{Head, Grid, cells, extentsInBounds, bounded, onePerCell}
 use Rattle.rules.specs.MarksAndFrames.{Mark, stepsAt, frameOf}
 use Rattle.rules.specs.OneBeam.{Beam, beamMarks}
 use Rattle.theorems.specs.DemandThree.Proof.{opened-length}
-use Rattle.theorems.specs.DemandThree.{frameOpened, gridOpened, Sweep, Multiples, oddsWithin, ofUnits, modelOfUnits, clearOfFloor}
+use Rattle.theorems.specs.DemandThree.{frameOpened, gridOpened, Opened, Sweep, Multiples, oddsWithin, ofUnits, modelOfUnits, clearOfFloor}
 
 abbrev pub every : {A : Type 0} → (A → Bool) → List A → Bool
 every test [] = true
@@ -31,13 +31,15 @@ abbrev isGiven : {A : Type 0} → Answer A → Bool
 isGiven (given x) = true
 isGiven (refused r) = false
 
--- the premises that a sweep and its grid have to meet, and those of the last sentence
-abbrev pub sweepTests : Format → Head → Grid → List Beam → List Bool
-sweepTests f h g bs =
+-- the premises that a sweep and its grid have to meet, the beams', and those of the last sentence
+abbrev pub openedTests : Head → Grid → List Bool
+openedTests h g =
     extentsInBounds (h .extents) ∷ bounded (h .model)
     ∷ onePerCell (h .extents) (length (g .odds)) ∷ onePerCell (h .extents) (length (g .stamps))
-    ∷ every (oddsWithin (h .model)) (g .odds) ∷ every (λ t. not (eqb (frameOf t) (frameOpened h))) (gridOpened h g .stamps)
-    ∷ every (λ b. isGiven (beamMarks f (h .extents) b)) bs ∷ []
+    ∷ every (oddsWithin (h .model)) (g .odds) ∷ every (λ t. not (eqb (frameOf t) (frameOpened h))) (gridOpened h g .stamps) ∷ []
+
+abbrev pub sweepTests : Format → Head → Grid → List Beam → List Bool
+sweepTests f h g bs = openedTests h g ++ every (λ b. isGiven (beamMarks f (h .extents) b)) bs ∷ []
 
 abbrev pub multiplesTests : Format → Head → Grid → List Bool
 multiplesTests f h g = modelOfUnits f (h .model) ∷ every (ofUnits f) (g .odds) ∷ everyAt (λ i o. clearOfFloor f (stepsAt (h .model) i) o) 0 (g .odds) ∷ []
@@ -73,9 +75,16 @@ module _ (b : Bool) (bs : List Bool) (t : T (allPass (b ∷ bs))) where
   rest : T (allPass bs)
   rest = and-r b (allPass bs) t
 
-pub sweep-holds : (f : Format) (h : Head) (g : Grid) (bs : List Beam) → T (allPass (sweepTests f h g bs)) → Sweep f h g bs
+-- the tests of two lists
+split-tests : (xs ys : List Bool) → T (allPass (xs ++ ys)) → T (allPass xs) × T (allPass ys)
+split-tests [] ys t = (tt, t)
+split-tests (x ∷ xs) ys t =
+    let r = split-tests xs ys (and-r x (allPass (xs ++ ys)) t) in
+    (and-i x (allPass xs) (and-l x (allPass (xs ++ ys)) t) (r .0), r .1)
+
+pub opened-holds : (h : Head) (g : Grid) → T (allPass (openedTests h g)) → Opened h g
 unfolding onePerCell
-sweep-holds f h g bs t₀ =
+opened-holds h g t₀ =
     let es = h .extents in
     let a₀ = extentsInBounds es in
     let a₁ = bounded (h .model) in
@@ -83,26 +92,31 @@ sweep-holds f h g bs t₀ =
     let a₃ = onePerCell es (length (g .stamps)) in
     let a₄ = every (oddsWithin (h .model)) (g .odds) in
     let a₅ = every (λ t. not (eqb (frameOf t) (frameOpened h))) (gridOpened h g .stamps) in
-    let a₆ = every (λ b. isGiven (beamMarks f (h .extents) b)) bs in
-    let t₁ = rest a₀ (a₁ ∷ a₂ ∷ a₃ ∷ a₄ ∷ a₅ ∷ a₆ ∷ []) t₀ in
-    let t₂ = rest a₁ (a₂ ∷ a₃ ∷ a₄ ∷ a₅ ∷ a₆ ∷ []) t₁ in
-    let t₃ = rest a₂ (a₃ ∷ a₄ ∷ a₅ ∷ a₆ ∷ []) t₂ in
-    let t₄ = rest a₃ (a₄ ∷ a₅ ∷ a₆ ∷ []) t₃ in
-    let t₅ = rest a₄ (a₅ ∷ a₆ ∷ []) t₄ in
-    let t₆ = rest a₅ (a₆ ∷ []) t₅ in
-    let n : length (g .odds) ≡ cells es = eqb→eq (length (g .odds)) (cells es) (first a₂ (a₃ ∷ a₄ ∷ a₅ ∷ a₆ ∷ []) t₂) in
-    let m : length (g .stamps) ≡ cells es = eqb→eq (length (g .stamps)) (cells es) (first a₃ (a₄ ∷ a₅ ∷ a₆ ∷ []) t₃) in
+    let t₁ = rest a₀ (a₁ ∷ a₂ ∷ a₃ ∷ a₄ ∷ a₅ ∷ []) t₀ in
+    let t₂ = rest a₁ (a₂ ∷ a₃ ∷ a₄ ∷ a₅ ∷ []) t₁ in
+    let t₃ = rest a₂ (a₃ ∷ a₄ ∷ a₅ ∷ []) t₂ in
+    let t₄ = rest a₃ (a₄ ∷ a₅ ∷ []) t₃ in
+    let t₅ = rest a₄ (a₅ ∷ []) t₄ in
+    let n : length (g .odds) ≡ cells es = eqb→eq (length (g .odds)) (cells es) (first a₂ (a₃ ∷ a₄ ∷ a₅ ∷ []) t₂) in
+    let m : length (g .stamps) ≡ cells es = eqb→eq (length (g .stamps)) (cells es) (first a₃ (a₄ ∷ a₅ ∷ []) t₃) in
     record {
-      extents = first a₀ (a₁ ∷ a₂ ∷ a₃ ∷ a₄ ∷ a₅ ∷ a₆ ∷ []) t₀;
-      model = first a₁ (a₂ ∷ a₃ ∷ a₄ ∷ a₅ ∷ a₆ ∷ []) t₁;
-      odds-per-cell = first a₂ (a₃ ∷ a₄ ∷ a₅ ∷ a₆ ∷ []) t₂;
-      stamps-per-cell = first a₃ (a₄ ∷ a₅ ∷ a₆ ∷ []) t₃;
-      within = λ i l. every-at (oddsWithin (h .model)) nan (g .odds) (first a₄ (a₅ ∷ a₆ ∷ []) t₄) i (omega arith);
+      extents = first a₀ (a₁ ∷ a₂ ∷ a₃ ∷ a₄ ∷ a₅ ∷ []) t₀;
+      model = first a₁ (a₂ ∷ a₃ ∷ a₄ ∷ a₅ ∷ []) t₁;
+      odds-per-cell = first a₂ (a₃ ∷ a₄ ∷ a₅ ∷ []) t₂;
+      stamps-per-cell = first a₃ (a₄ ∷ a₅ ∷ []) t₃;
+      within = λ i l. every-at (oddsWithin (h .model)) nan (g .odds) (first a₄ (a₅ ∷ []) t₄) i (omega arith);
       unstamped =
           λ i l e. T-not (eqb (frameOf (getD (gridOpened h g .stamps) i 0)) (frameOpened h))
-          (every-at (λ t. not (eqb (frameOf t) (frameOpened h))) 0 (gridOpened h g .stamps) (first a₅ (a₆ ∷ []) t₅) i (omega (arith, opened-length (h .frame) (g .stamps))))
+          (every-at (λ t. not (eqb (frameOf t) (frameOpened h))) 0 (gridOpened h g .stamps) (first a₅ [] t₅) i (omega (arith, opened-length (h .frame) (g .stamps))))
           (eq→eqb e);
-      taken = λ b d. is-given (beamMarks f es b) (every-of (λ b. isGiven (beamMarks f es b)) bs (first a₆ [] t₆) b d);
+    }
+
+pub sweep-holds : (f : Format) (h : Head) (g : Grid) (bs : List Beam) → T (allPass (sweepTests f h g bs)) → Sweep f h g bs
+sweep-holds f h g bs t =
+    let p = split-tests (openedTests h g) (every (λ b. isGiven (beamMarks f (h .extents) b)) bs ∷ []) t in
+    record {
+      opened = opened-holds h g (p .0);
+      taken = λ b d. is-given (beamMarks f (h .extents) b) (every-of (λ b. isGiven (beamMarks f (h .extents) b)) bs (first (every (λ b. isGiven (beamMarks f (h .extents) b)) bs) [] (p .1)) b d);
     }
 
 pub multiples-hold : (f : Format) (h : Head) (g : Grid) → T (onePerCell (h .extents) (length (g .odds))) → T (allPass (multiplesTests f h g)) → Multiples f h g

@@ -16,7 +16,7 @@ use Rattle.rules.specs.RefusalNumbers.Entries.{firstTooSmall, extentsRefusal, h
 use Rattle.rules.specs.TheGridAndItsBounds.{Model, Head, Grid, leastExtent, allAtLeast, fitsCapacity, extentsInBounds, bounded, cutsInBounds, onePerCell}
 use Rattle.rules.specs.MarksAndFrames.{highestFrame, openFrame, openedFrame}
 use Rattle.rules.specs.OneBeam.{Beam, flatShape, beamsOf}
-use Rattle.theorems.specs.DemandThree.{Sweep, Settled, frameOpened, gridOpened, sweep}
+use Rattle.theorems.specs.DemandThree.{Opened, Sweep, Settled, frameOpened, gridOpened, sweep}
 use Rattle.theorems.specs.DemandThree.Proof.{demand-three, opened-length}
 use Rattle.theorems.specs.FlatList.{is-true, flat-as-structs}
 
@@ -45,23 +45,23 @@ opened-open k = go (leb highestFrame k) refl
     go true e = refl
     go false e = let l = leb-false highestFrame k e in rw (lt-ltb 0 (k + 1) (omega arith), le-leb (k + 1) highestFrame (omega arith)) refl
 
-module _ (f : Format) (h : Head) (g : Grid) (bs : List Beam) (s : Sweep f h g bs) where
-  -- `begin_scan` opens the sweep
-  pub begins : beginScanEntry h (g .stamps) ≡ record { answer = given (headOpened h); lent = gridOpened h g .stamps }
-  unfolding beginScanEntry headRefusal
-  begins = rw (extents-pass (h .extents) (s .extents), is-true (onePerCell (h .extents) (length (g .stamps))) (s .stamps-per-cell)) refl
+-- `begin_scan` opens the sweep
+pub begins : (h : Head) (g : Grid) → Opened h g → beginScanEntry h (g .stamps) ≡ record { answer = given (headOpened h); lent = gridOpened h g .stamps }
+unfolding beginScanEntry headRefusal
+begins h g o = rw (extents-pass (h .extents) (o .extents), is-true (onePerCell (h .extents) (length (g .stamps))) (o .stamps-per-cell)) refl
 
+module _ (f : Format) (h : Head) (g : Grid) (bs : List Beam) (s : Sweep f h g bs) where
   -- A slice of beams then leaves what the theorem speaks of. That the cuts are in bounds is no premise of demand 3: it is what the entry itself checks (15).
   pub integrates : T (cutsInBounds (h .extents) (h .model)) → updateBeamsEntry f (headOpened h) bs (gridOpened h g) ≡ ofIntegrated (sweep f h g bs)
   unfolding updateBeamsEntry headRefusal
   integrates cuts =
       rw (
-        extents-pass (h .extents) (s .extents),
-        is-true (bounded (h .model)) (s .model),
+        extents-pass (h .extents) (s .opened .extents),
+        is-true (bounded (h .model)) (s .opened .model),
         is-true (cutsInBounds (h .extents) (h .model)) cuts,
-        is-true (onePerCell (h .extents) (length (g .odds))) (s .odds-per-cell),
+        is-true (onePerCell (h .extents) (length (g .odds))) (s .opened .odds-per-cell),
         opened-length (h .frame) (g .stamps),
-        is-true (onePerCell (h .extents) (length (g .stamps))) (s .stamps-per-cell),
+        is-true (onePerCell (h .extents) (length (g .stamps))) (s .opened .stamps-per-cell),
         opened-open (h .frame),
       )
       refl

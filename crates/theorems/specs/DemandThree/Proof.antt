@@ -19,10 +19,10 @@ use Rattle.theorems.specs.DemandThree.Orders.{runs, anyCloud, anyMark, k
 use Rattle.theorems.specs.DemandThree.Orders.{clear-marks, cloud-marks, stamp-is, odds-are}
 use Rattle.theorems.specs.DemandThree.Beams.{Taken, allMarks, given-a-count, grid-is, makes-mem, mem-makes, makes-same, cloud-mem, mark-mem, mem-cloud, mem-mark}
 use Rattle.theorems.specs.DemandThree.OneCell.{exact}
-use Rattle.theorems.specs.DemandThree.{frameOpened, gridOpened, sweep, Hit, Touched, SameBeams, Sweep, Multiples, cloudAlone, cloudAfterClear, Settled}
+use Rattle.theorems.specs.DemandThree.{frameOpened, gridOpened, sweep, Hit, Touched, SameBeams, Sweep, Multiples, cloudAlone, cloudAfterClear, Ends, Settled}
 
 -- ---- permutations and repeats are the same beams
-perm-mem : {bs cs : List Beam} (b : Beam) → List·Permᴰ bs cs → List·Memᴰ b bs → List·Memᴰ b cs
+pub perm-mem : {A : Type 0} {bs cs : List A} (b : A) → List·Permᴰ bs cs → List·Memᴰ b bs → List·Memᴰ b cs
 perm-mem b List·Permᴰ·nil d = d
 perm-mem b (List·Permᴰ·cons e p) d = elim (List·Memᴰ·cases-cons d) [ inl w ↦ List·Memᴰ·head (w ∙ e) | inr w ↦ List·Memᴰ·tail (perm-mem b p w) ]
 perm-mem b (List·Permᴰ·swap e g) d =
@@ -56,8 +56,8 @@ module _ (f : Format) (h : Head) (g : Grid) (bs : List Beam) (p : Sweep f h g bs
   unfolding onePerCell
   sized =
       record {
-        odds = eqb→eq (length (g .odds)) (cells (h .extents)) (p .odds-per-cell);
-        stamps = opened-length (h .frame) (g .stamps) ∙ eqb→eq (length (g .stamps)) (cells (h .extents)) (p .stamps-per-cell);
+        odds = eqb→eq (length (g .odds)) (cells (h .extents)) (p .opened .odds-per-cell);
+        stamps = opened-length (h .frame) (g .stamps) ∙ eqb→eq (length (g .stamps)) (cells (h .extents)) (p .opened .stamps-per-cell);
       }
 
   -- each cell after a list of beams
@@ -97,13 +97,13 @@ module _ (f : Format) (h : Head) (g : Grid) (bs : List Beam) (p : Sweep f h g bs
       → cellAt (sweep f h g bs .grid) i ≡ cleared f (stepsAt (h .model) i) (frameOpened h) (getD (g .odds) i nan)
   clear-cell i l w z =
       cell-after bs (p .taken) i l
-      ∙ clear-marks f (stepsAt (h .model) i) (frameOpened h) (cellAt (gridOpened h g) i) (p .unstamped i l) (kinds i bs) (touched-test bs i w) (λ t. z (test-hit bs i t))
+      ∙ clear-marks f (stepsAt (h .model) i) (frameOpened h) (cellAt (gridOpened h g) i) (p .opened .unstamped i l) (kinds i bs) (touched-test bs i w) (λ t. z (test-hit bs i t))
 
   cloud-cell : (i : ℕ) → i < cells (h .extents) → Hit f (h .extents) bs i
       → (cellAt (sweep f h g bs .grid) i ≡ clouded f (stepsAt (h .model) i) (frameOpened h) (getD (g .odds) i nan))
       ⊎ (cellAt (sweep f h g bs .grid) i ≡ restored f (stepsAt (h .model) i) (frameOpened h) (freed f (stepsAt (h .model) i) (getD (g .odds) i nan)))
   cloud-cell i l w =
-      go (cloud-marks f (stepsAt (h .model) i) (frameOpened h) (cellAt (gridOpened h g) i) (p .unstamped i l) (kinds i bs) (hit-test bs i w))
+      go (cloud-marks f (stepsAt (h .model) i) (frameOpened h) (cellAt (gridOpened h g) i) (p .opened .unstamped i l) (kinds i bs) (hit-test bs i w))
     where
       s : Steps
       s = stepsAt (h .model) i
@@ -134,6 +134,18 @@ module _ (f : Format) (h : Head) (g : Grid) (bs : List Beam) (p : Sweep f h g bs
             ∙ sym (ap (λ (d : Float). occupy f s o d) (back-step f s (frameOpened h) (record { odds = o; stamp = stampOf (frameOpened h) false }) refl)))
       ]
 
+  ends : Ends f h g bs (sweep f h g bs .grid)
+  ends =
+      record {
+        hit-stamp = cloud-stamp;
+        clear-stamp = λ i l w z. ap (λ (c : Cell). c .stamp) (clear-cell i l w z);
+        untouched =
+            λ i l z. cell-after bs (p .taken) i l ∙ no-marks f (stepsAt (h .model) i) (frameOpened h) (cellAt (gridOpened h g) i) (p .opened .unstamped i l)
+            (kinds i bs) (λ t. z (test-touched bs i t));
+        clear-odds = λ i l w z. ap (λ (c : Cell). c .odds) (clear-cell i l w z);
+        cloud-odds = cloud-odds;
+      }
+
   -- ---- the same beams
   module _ (cs : List Beam) (e : SameBeams bs cs) where
     taken-too : Taken f (h .extents) cs
@@ -159,9 +171,9 @@ module _ (f : Format) (h : Head) (g : Grid) (bs : List Beam) (p : Sweep f h g bs
         (λ i q. let l : i < cells (h .extents) = omega (arith, a .stamps) in
         let s = stepsAt (h .model) i in
         let c = cellAt (gridOpened h g) i in
-        ap (λ (x : Cell). x .stamp) (cell-after bs (p .taken) i l) ∙ stamp-is f s (frameOpened h) c (p .unstamped i l) (kinds i bs)
+        ap (λ (x : Cell). x .stamp) (cell-after bs (p .taken) i l) ∙ stamp-is f s (frameOpened h) c (p .opened .unstamped i l) (kinds i bs)
         ∙ ap₂ (λ (u v : Bool). cond u (stampOf (frameOpened h) true) (cond v (stampOf (frameOpened h) false) (c .stamp))) (cloud-same i) (mark-same i)
-        ∙ sym (ap (λ (x : Cell). x .stamp) (cell-after cs taken-too i l) ∙ stamp-is f s (frameOpened h) c (p .unstamped i l) (kinds i cs)))
+        ∙ sym (ap (λ (x : Cell). x .stamp) (cell-after cs taken-too i l) ∙ stamp-is f s (frameOpened h) c (p .opened .unstamped i l) (kinds i cs)))
 
     odds-same : Multiples f h g → sweep f h g bs .grid .odds ≡ sweep f h g cs .grid .odds
     odds-same m =
@@ -171,23 +183,17 @@ module _ (f : Format) (h : Head) (g : Grid) (bs : List Beam) (p : Sweep f h g bs
         (λ i q. let l : i < cells (h .extents) = omega (arith, a .odds) in
         let s = stepsAt (h .model) i in
         let c = cellAt (gridOpened h g) i in
-        let x = exact f (h .model) i (c .odds) (p .model) (m .model) (p .within i l) (m .odds i l) (m .clear-of-floor i l) in
-        ap (λ (y : Cell). y .odds) (cell-after bs (p .taken) i l) ∙ odds-are f s (frameOpened h) c (p .unstamped i l) x (kinds i bs)
+        let x = exact f (h .model) i (c .odds) (p .opened .model) (m .model) (p .opened .within i l) (m .odds i l) (m .clear-of-floor i l) in
+        ap (λ (y : Cell). y .odds) (cell-after bs (p .taken) i l) ∙ odds-are f s (frameOpened h) c (p .opened .unstamped i l) x (kinds i bs)
         ∙ ap₂ (λ (u v : Bool). cond u (alone f s (c .odds)) (cond v (freed f s (c .odds)) (c .odds))) (cloud-same i) (mark-same i)
-        ∙ sym (ap (λ (y : Cell). y .odds) (cell-after cs taken-too i l) ∙ odds-are f s (frameOpened h) c (p .unstamped i l) x (kinds i cs)))
+        ∙ sym (ap (λ (y : Cell). y .odds) (cell-after cs taken-too i l) ∙ odds-are f s (frameOpened h) c (p .opened .unstamped i l) x (kinds i cs)))
 
 -- THE THEOREM
 pub demand-three : (f : Format) (h : Head) (g : Grid) (bs : List Beam) → Sweep f h g bs → Settled f h g bs
 demand-three f h g bs p =
     record {
       given-a-count = given-a-count f (h .extents) (h .model) (frameOpened h) bs (gridOpened h g) (p .taken);
-      hit-stamp = cloud-stamp f h g bs p;
-      clear-stamp = λ i l w z. ap (λ (c : Cell). c .stamp) (clear-cell f h g bs p i l w z);
-      untouched =
-          λ i l z. cell-after f h g bs p bs (p .taken) i l ∙ no-marks f (stepsAt (h .model) i) (frameOpened h) (cellAt (gridOpened h g) i) (p .unstamped i l)
-          (kinds f h g bs p i bs) (λ t. z (test-touched f h g bs p bs i t));
-      clear-odds = λ i l w z. ap (λ (c : Cell). c .odds) (clear-cell f h g bs p i l w z);
-      cloud-odds = cloud-odds f h g bs p;
+      ends = ends f h g bs p;
       stamps-same = stamps-same f h g bs p;
       stamps-permuted = λ cs q. stamps-same f h g bs p cs (permuted bs cs q);
       stamps-repeated = λ b d. stamps-same f h g bs p (b ∷ bs) (repeated b bs d);

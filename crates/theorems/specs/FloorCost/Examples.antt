@@ -4,11 +4,12 @@ use mathlib.Core.List.{List, [], _∷_}
 use lib.Ieee.{Float, nan, binary64, ofBits}
 use Rattle.rules.specs.Floats.{zeroF}
 use Rattle.rules.specs.TheGridAndItsBounds.{Grid}
+use Rattle.rules.specs.MarksAndFrames.{cellAt}
 use Rattle.rules.specs.OneBeam.{Beam}
-use Rattle.theorems.specs.DemandThree.{Sweep, ofUnits}
+use Rattle.theorems.specs.DemandThree.{Sweep, sweep, ofUnits}
 use Rattle.theorems.specs.DemandThree.AsTests.{sweep-holds, every-at}
 use Rattle.theorems.specs.DemandThree.Examples.{minus, head2, cloud, clear, opened}
-use Rattle.theorems.specs.FloorCost.{InUnits, loneVote, oddsAfter}
+use Rattle.theorems.specs.FloorCost.{InUnits, loneVote}
 
 -- a map of 2 by 2 with these odds at cell 1 and zero elsewhere; a clear beam crosses that cell, and then a beam hits it
 abbrev lent : Float → Grid
@@ -18,7 +19,7 @@ abbrev clearThenCloud : List Beam
 clearThenCloud = clear [] ∷ cloud [] ∷ []
 
 abbrev after : Float → Float
-after o = oddsAfter binary64 head2 (lent o) clearThenCloud 1
+after o = cellAt (sweep binary64 head2 (lent o) clearThenCloud .grid) 1 .odds
 
 abbrev lone : Float → Float
 lone o = loneVote binary64 head2 (lent o) 1

@@ -10,7 +10,7 @@ use lib.ListN.{length, getD}
 use lib.Ieee.{Float, nan, Format, add, le}
 use lib.Ieee.Fits.{and-l, and-r}
 use Rattle.rules.specs.TheGridAndItsBounds.{Model, Head, Grid, cells, bounded, floor, cutsInBounds}
-use Rattle.rules.specs.MarksAndFrames.{Steps, pairFor, stepsAt, stampOf, freed, occupy}
+use Rattle.rules.specs.MarksAndFrames.{Steps, pairFor, stepsAt, stampOf, freed, occupy, cellAt}
 use Rattle.rules.specs.OneBeam.{Beam, flatShape, beamsOf}
 use Rattle.rules.specs.RefusalNumbers.Entries.{Outcome, updateScanEntry, updateBeamsEntry}
 use Rattle.laws.specs.Floats.Tests.{order}
@@ -22,7 +22,7 @@ use Rattle.theorems.specs.DemandThree.OneCell.{above, in-units, near-zer
 use Rattle.theorems.specs.DemandThree.Orders.{back-step}
 use Rattle.theorems.specs.DemandThree.Proof.{demand-three}
 use Rattle.theorems.specs.DemandThree.Entries.{headOpened, settles-slice, settles}
-use Rattle.theorems.specs.FloorCost.{InUnits, loneVote, oddsAfter, FloorCost}
+use Rattle.theorems.specs.FloorCost.{InUnits, loneVote, FloorCost}
 
 -- at most the one and at least the other less a clear step
 pub record Between (f : Format) (s : Steps) (lone x : Float) : Type 0 where
@@ -141,25 +141,25 @@ module _ (f : Format) (m : Model) (i : ℕ) (o : Float) (b : T (bounded m)) (n :
 
 -- THE THEOREM
 module _ (f : Format) (h : Head) (g : Grid) (bs : List Beam) (p : Sweep f h g bs) (e : InUnits f h g) where
-  hit-cell : (i : ℕ) → i < cells (h .extents) → Hit f (h .extents) bs i → Between f (stepsAt (h .model) i) (loneVote f h g i) (oddsAfter f h g bs i)
+  hit-cell : (i : ℕ) → i < cells (h .extents) → Hit f (h .extents) bs i → Between f (stepsAt (h .model) i) (loneVote f h g i) (cellAt (sweep f h g bs .grid) i .odds)
   unfolding s
   hit-cell i l w =
       let o = getD (g .odds) i nan in
       let B : Float → Type 0 = λ x. Between f (stepsAt (h .model) i) (loneVote f h g i) x in
-      elim (demand-three f h g bs p .cloud-odds i l w) [
-        | inl q ↦ subst B (sym q) (hit-alone f (h .model) i o (p .model) (e .model) (p .within i l) (e .odds i l))
-        | inr q ↦ subst B (sym q) (hit-after-clear f (h .model) i o (p .model) (e .model) (p .within i l) (e .odds i l) (frameOpened h))
+      elim (demand-three f h g bs p .ends .cloud-odds i l w) [
+        | inl q ↦ subst B (sym q) (hit-alone f (h .model) i o (p .opened .model) (e .model) (p .opened .within i l) (e .odds i l))
+        | inr q ↦ subst B (sym q) (hit-after-clear f (h .model) i o (p .opened .model) (e .model) (p .opened .within i l) (e .odds i l) (frameOpened h))
       ]
 
-  pub floor-cost : FloorCost f h g bs
+  pub floor-cost : FloorCost f h g bs (sweep f h g bs .grid)
   floor-cost = record { no-higher = λ i l w. hit-cell i l w .no-higher; one-clear-step = λ i l w. hit-cell i l w .one-clear-step }
 
   -- so whatever meets the contract of a slice of beams, or of `update_scan`, leaves lists of which it holds
   pub costs-slice : T (cutsInBounds (h .extents) (h .model)) → (out : Outcome ℕ Grid) → out ≡ updateBeamsEntry f (headOpened h) bs (gridOpened h g)
-      → (out .lent ≡ sweep f h g bs .grid) × FloorCost f h g bs
+      → (out .lent ≡ sweep f h g bs .grid) × FloorCost f h g bs (sweep f h g bs .grid)
   costs-slice cuts out q = (settles-slice f h g bs p cuts out q .0, floor-cost)
 
 module _ (f : Format) (h : Head) (g : Grid) (numbers : List Float) (hits : List ℕ) (p : Sweep f h g (beamsOf (length (h .extents)) numbers hits)) (e : InUnits f h g) where
   pub costs : T (cutsInBounds (h .extents) (h .model)) → T (flatShape (length (h .extents)) numbers hits) → (out : Outcome ℕ Grid) → out ≡ updateScanEntry f (headOpened h) numbers hits (gridOpened h g)
-      → (out .lent ≡ sweep f h g (beamsOf (length (h .extents)) numbers hits) .grid) × FloorCost f h g (beamsOf (length (h .extents)) numbers hits)
+      → (out .lent ≡ sweep f h g (beamsOf (length (h .extents)) numbers hits) .grid) × FloorCost f h g (beamsOf (length (h .extents)) numbers hits) (sweep f h g (beamsOf (length (h .extents)) numbers hits) .grid)
   costs cuts t out q = (settles f h g numbers hits p cuts t out q .0, floor-cost f h g (beamsOf (length (h .extents)) numbers hits) p e)
