@@ -26,9 +26,12 @@ use Rattle.rules.specs.MarksAndFrames.{Steps, Mark, stepsAt, stampOf, frameOf, 
 use Rattle.rules.specs.OneBeam.{Beam, Integrated, beamMarks, integrated}
 
 -- ---- a sweep
--- the frame that `begin_scan` opens, and the grid as it leaves it
+-- the frame that `begin_scan` opens, the head as it answers it, and the grid as it leaves it
 abbrev pub frameOpened : Head → ℕ
 frameOpened h = openedFrame (h .frame)
+
+abbrev pub headOpened : Head → Head
+headOpened h = record { extents = h .extents; model = h .model; frame = frameOpened h }
 
 abbrev pub gridOpened : Head → Grid → Grid
 gridOpened h g = record { odds = g .odds; stamps = openedStamps (h .frame) (g .stamps) }

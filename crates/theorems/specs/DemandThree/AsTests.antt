@@ -27,7 +27,7 @@ abbrev pub everyAt : {A : Type 0} → (ℕ → A → Bool) → ℕ → List A �
 everyAt test k [] = true
 everyAt test k (x ∷ xs) = test k x && everyAt test (suc k) xs
 
-abbrev isGiven : {A : Type 0} → Answer A → Bool
+abbrev pub isGiven : {A : Type 0} → Answer A → Bool
 isGiven (given x) = true
 isGiven (refused r) = false
 
@@ -63,7 +63,7 @@ every-of test [] t x d = absurd (List·Memᴰ·not-nil d)
 every-of test (y ∷ xs) t x d =
     elim (List·Memᴰ·cases-cons d) [ inl e ↦ subst (λ z. T (test z)) (sym e) (and-l (test y) (every test xs) t) | inr e ↦ every-of test xs (and-r (test y) (every test xs) t) x e ]
 
-is-given : (a : Answer (List Mark)) → T (isGiven a) → (xs : List Mark) × (a ≡ given xs)
+pub is-given : {A : Type 0} (a : Answer A) → T (isGiven a) → (xs : A) × (a ≡ given xs)
 is-given (given xs) t = (xs, refl)
 is-given (refused r) t = absurd t
 

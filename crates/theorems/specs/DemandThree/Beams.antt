@@ -15,11 +15,12 @@ use Rattle.rules.specs.TheGridAndItsBounds.{Model, Grid}
 use Rattle.rules.specs.MarksAndFrames.{Mark, marked, changes}
 use Rattle.rules.specs.OneBeam.{Beam, Integrated, beamMarks, integratedMarks, integratedBeam, integratedFrom, integrated, orStop}
 use Rattle.laws.specs.Floats.Tests.{or-cases, or-r}
+use Rattle.laws.specs.MarkLists.{marked-append}
 use Rattle.theorems.specs.DemandThree.Orders.{anyCloud, anyMark, kindsOn}
 use Rattle.theorems.specs.DemandThree.{Makes}
 
 -- the marks of an answer, and of a list of beams
-abbrev marksGiven : Answer (List Mark) → List Mark
+abbrev pub marksGiven : Answer (List Mark) → List Mark
 marksGiven (given xs) = xs
 marksGiven (refused r) = []
 
@@ -32,11 +33,6 @@ abbrev pub Taken : Format → List ℕ → List Beam → Type 0
 Taken f es bs = (b : Beam) → List·Memᴰ b bs → (xs : List Mark) × (beamMarks f es b ≡ given xs)
 
 -- ---- the grid after a list of beams is the grid after their marks
-marked-append : (f : Format) (m : Model) (k : ℕ) (xs ys : List Mark) (g : Grid) → marked f m k (xs ++ ys) g ≡ marked f m k ys (marked f m k xs g)
-unfolding marked
-marked-append f m k [] ys g = refl
-marked-append f m k (x ∷ xs) ys g = marked-append f m k xs ys _
-
 module _ (f : Format) (es : List ℕ) (m : Model) (k : ℕ) where
   one-more : (place count : ℕ) (b : Beam) (bs : List Beam) (g : Grid) (xs : List Mark) → beamMarks f es b ≡ given xs
       → integratedFrom f es m k place count (b ∷ bs) g ≡ integratedFrom f es m k (suc place) (count + changes f m k xs g) bs (marked f m k xs g)

@@ -16,13 +16,9 @@ use Rattle.rules.specs.RefusalNumbers.Entries.{firstTooSmall, extentsRefusal, h
 use Rattle.rules.specs.TheGridAndItsBounds.{Model, Head, Grid, leastExtent, allAtLeast, fitsCapacity, extentsInBounds, bounded, cutsInBounds, onePerCell}
 use Rattle.rules.specs.MarksAndFrames.{highestFrame, openFrame, openedFrame}
 use Rattle.rules.specs.OneBeam.{Beam, flatShape, beamsOf}
-use Rattle.theorems.specs.DemandThree.{Opened, Sweep, Settled, frameOpened, gridOpened, sweep}
+use Rattle.theorems.specs.DemandThree.{Opened, Sweep, Settled, headOpened, gridOpened, sweep}
 use Rattle.theorems.specs.DemandThree.Proof.{demand-three, opened-length}
 use Rattle.theorems.specs.FlatList.{is-true, flat-as-structs}
-
--- the head of a map with its sweep opened
-abbrev pub headOpened : Head → Head
-headOpened h = record { extents = h .extents; model = h .model; frame = frameOpened h }
 
 none-too-small : (k : ℕ) (es : List ℕ) → T (allAtLeast leastExtent es) → firstTooSmall k es ≡ none
 unfolding firstTooSmall allAtLeast

@@ -47,7 +47,7 @@ head2 = record { extents = 2 ∷ 2 ∷ []; model = model; frame = 1 }
 abbrev inFrame : ℕ → Head
 inFrame k = record { extents = 2 ∷ 2 ∷ []; model = model; frame = k }
 
-abbrev head3 : Head
+abbrev pub head3 : Head
 head3 = record { extents = 2 ∷ 2 ∷ 3 ∷ []; model = bands; frame = 1 }
 
 -- a beam that hits cell 1, and one that leaves it clear; the points' last coordinates are added for three axes
@@ -67,7 +67,7 @@ grid2 = record { odds = odds4; stamps = 0 ∷ 1 ∷ 2 ∷ 3 ∷ [] }
 abbrev grid0 : Grid
 grid0 = record { odds = odds4; stamps = 0 ∷ 0 ∷ 7 ∷ 1 ∷ [] }
 
-abbrev grid3 : Grid
+abbrev pub grid3 : Grid
 grid3 = record { odds = odds4 ++ odds4 ++ odds4; stamps = 0 ∷ 1 ∷ 2 ∷ 3 ∷ replicate 8 0 }
 
 -- Opening the last of these opens the definitions that the examples compute through, and the library's float operations.

@@ -14,14 +14,14 @@ use Rattle.rules.specs.MarksAndFrames.{Steps, pairFor, stepsAt, stampOf, freed,
 use Rattle.rules.specs.OneBeam.{Beam, flatShape, beamsOf}
 use Rattle.rules.specs.RefusalNumbers.Entries.{Outcome, updateScanEntry, updateBeamsEntry}
 use Rattle.laws.specs.Floats.Tests.{order}
-use Rattle.theorems.specs.DemandThree.{Sweep, sweep, Hit, frameOpened, gridOpened, oddsWithin, ofUnits, modelOfUnits, cloudAlone, cloudAfterClear}
+use Rattle.theorems.specs.DemandThree.{Sweep, sweep, Hit, frameOpened, headOpened, gridOpened, oddsWithin, ofUnits, modelOfUnits, cloudAlone, cloudAfterClear}
 use Rattle.theorems.specs.DemandThree.Dyadic.{Units, dif, dif-units, add-dif, le-units}
 use Rattle.theorems.specs.DemandThree.Multiple.{many, plus, less}
 use Rattle.theorems.specs.DemandThree.TakeBack.{alone, takenBack, most, most-fits, StepUnits, free-is, freed-is, alone-is, back-low, take-back}
 use Rattle.theorems.specs.DemandThree.OneCell.{above, in-units, near-zero, step-units, of-units}
 use Rattle.theorems.specs.DemandThree.Orders.{back-step}
 use Rattle.theorems.specs.DemandThree.Proof.{demand-three}
-use Rattle.theorems.specs.DemandThree.Entries.{headOpened, settles-slice, settles}
+use Rattle.theorems.specs.DemandThree.Entries.{settles-slice, settles}
 use Rattle.theorems.specs.FloorCost.{InUnits, loneVote, FloorCost}
 
 -- at most the one and at least the other less a clear step

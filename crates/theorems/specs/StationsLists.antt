@@ -1,0 +1,56 @@
+-- THE ORDER OF THE STATIONS' LISTS does not matter. A night is many calls: one station mails a file, another a list, an older one looks straight up, a keeper
+-- sends one beam again. After `begin_scan`, where no call is refused, it matters which beams were handed over: not in which order, not how often, and not by
+-- which calls. `Words` has the calls and what they leave; demand 3's words are in `DemandThree`. Marks by hand (`mark_free`, `mark_occupied`) are no beams and are
+-- not among the calls. Assumes nothing.
+pub mod Words
+pub mod OneCall
+pub mod Calls
+pub mod Proof
+pub mod Examples
+use mathlib.Core.Path.{_≡_, refl, sym, subst}
+use mathlib.Core.List.{List, [], _∷_, List·Memᴰ, List·Memᴰ·tail, List·Memᴰ·cases-cons, List·Permᴰ, List·Permᴰ·swap, Permᴰ·symm}
+use mathlib.Core.Logic.{inl, inr}
+use lib.Ieee.{Format}
+use Rattle.rules.specs.RefusalNumbers.{given}
+use Rattle.rules.specs.RefusalNumbers.Entries.{beginScanEntry}
+use Rattle.rules.specs.TheGridAndItsBounds.{Head, Grid}
+use Rattle.theorems.specs.DemandThree.{headOpened, gridOpened, SameBeams, Opened, Ends}
+use Rattle.theorems.specs.DemandThree.Proof.{perm-mem}
+use Rattle.theorems.specs.DemandThree.Entries.{begins}
+use Rattle.theorems.specs.FloorCost.{InUnits, FloorCost}
+use Rattle.theorems.specs.StationsLists.Words.{Call, handed, night, NoneRefused, SameMap, AsGood}
+use Rattle.theorems.specs.StationsLists.Proof.{ends, costs, same-map, same-calls}
+
+-- of any format, and of any map whose sweep is properly opened
+module _ (f : Format) (h : Head) (g : Grid) (o : Opened h g) where
+  -- All calls of a night, in any other order: the second order is accepted where the first is, leaves the same stamps, and under the premises of demand 3's
+  -- last sentence the same odds.
+  pub any-order-of-the-calls : (cs ds : List Call) → List·Permᴰ cs ds → NoneRefused f h g cs → AsGood f h g cs ds
+  any-order-of-the-calls cs ds p = same-calls f h g o cs ds (λ c m. perm-mem c p m) (λ c m. perm-mem c (Permᴰ·symm p) m)
+
+  -- Two lists exchanged, of whatever kinds.
+  pub the-order-of-the-stations-lists : (first second : Call) → NoneRefused f h g (first ∷ second ∷ []) → AsGood f h g (first ∷ second ∷ []) (second ∷ first ∷ [])
+  the-order-of-the-stations-lists first second = any-order-of-the-calls (first ∷ second ∷ []) (second ∷ first ∷ []) (List·Permᴰ·swap refl refl)
+
+  -- A call sent again.
+  pub a-call-sent-again : (c : Call) (cs : List Call) → List·Memᴰ c cs → NoneRefused f h g cs → AsGood f h g cs (c ∷ cs)
+  a-call-sent-again c cs m =
+      same-calls f h g o cs (c ∷ cs) (λ d w. List·Memᴰ·tail w)
+      (λ d w. elim (List·Memᴰ·cases-cons w) [ inl e ↦ subst (λ (x : Call). List·Memᴰ x cs) (sym e) m | inr e ↦ e ])
+
+  -- The same beams, in any order and with any repeats, divided among calls and kinds of calls in any way.
+  pub the-same-beams : (cs ds : List Call) → NoneRefused f h g cs → NoneRefused f h g ds
+      → SameBeams (handed f (h .extents) cs) (handed f (h .extents) ds) → SameMap f h g cs ds
+  the-same-beams = same-map f h g o
+
+  -- Demand 3 of what the last call leaves: each cell ends as the beams that were handed over say.
+  pub the-cells-at-the-end : (cs : List Call) → NoneRefused f h g cs → Ends f h g (handed f (h .extents) cs) (night f h g cs)
+  the-cells-at-the-end = ends f h g o
+
+  -- Request 9's bound of it.
+  pub the-floor-at-the-end : (cs : List Call) → NoneRefused f h g cs → InUnits f h g → FloorCost f h g (handed f (h .extents) cs) (night f h g cs)
+  the-floor-at-the-end = costs f h g o
+
+-- The night begins with `begin_scan`, which answers the head that the calls are made with, and leaves the stamps that they find.
+pub the-sweep-opens : (h : Head) (g : Grid) → Opened h g → beginScanEntry h (g .stamps) ≡ record { answer = given (headOpened h); lent = gridOpened h g .stamps }
+the-sweep-opens = begins
