@@ -1,11 +1,13 @@
 -- The layer chart: what its numbers can be, and what each depends on. `Columns` has a column and the whole chart, `Order` that more odds give no lower
--- grade; the two totals side by side stand in chart/specs/Totals, the limits as decimals in chart/proofs/Limits. Definitions only.
+-- grade, `More` what that is to a chart; the two totals side by side stand in chart/specs/Totals, the limits as decimals in chart/proofs/Limits. Definitions
+-- only.
 pub mod Columns
 pub mod Order
+pub mod More
 use Prim.Native.Nat.{ℕ, _+_, _*_, _≤_, _<_}
 use mathlib.Core.Path.{_≡_}
 use mathlib.Core.Bool.{Bool, _&&_, _||_}
-use mathlib.Core.List.{List}
+use mathlib.Core.List.{List, [], _∷_}
 use lib.Dec.{T, eqb}
 use lib.ListN.{length, getD, take, drop}
 use lib.Ieee.{Float, nan, le}
@@ -19,6 +21,13 @@ AgreeOn columns layers column odds other =
 -- a cell with more odds has no lower grade
 abbrev pub MoreOdds : Type 0
 MoreOdds = (ceiling x y : Float) → T (le x y) → eighths ceiling x ≤ eighths ceiling y
+
+-- no number of the one list is above the number at its place in the other, and there are as many
+abbrev pub NoneAbove : List ℕ → List ℕ → Type 0
+NoneAbove [] [] = Unit {0}
+NoneAbove [] (y ∷ ys) = ⊥
+NoneAbove (x ∷ xs) [] = ⊥
+NoneAbove (x ∷ xs) (y ∷ ys) = (x ≤ y) × NoneAbove xs ys
 
 pub record ChartLaws : Type 0 where
   -- No grade is above 8, a cell's or a band's.

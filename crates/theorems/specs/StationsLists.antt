@@ -6,19 +6,27 @@ pub mod Words
 pub mod OneCall
 pub mod Calls
 pub mod Proof
+pub mod ChartWords
+pub mod Chart
 pub mod Examples
-use mathlib.Core.Path.{_≡_, refl, sym, subst}
+pub mod ChartExamples
+use Prim.Native.Nat.{ℕ}
+use mathlib.Core.Path.{_≡_, refl, sym, ap, subst}
 use mathlib.Core.List.{List, [], _∷_, List·Memᴰ, List·Memᴰ·tail, List·Memᴰ·cases-cons, List·Permᴰ, List·Permᴰ·swap, Permᴰ·symm}
 use mathlib.Core.Logic.{inl, inr}
-use lib.Ieee.{Format}
+use lib.Ieee.{Float, Format}
 use Rattle.rules.specs.RefusalNumbers.{given}
 use Rattle.rules.specs.RefusalNumbers.Entries.{beginScanEntry}
 use Rattle.rules.specs.TheGridAndItsBounds.{Head, Grid}
-use Rattle.theorems.specs.DemandThree.{headOpened, gridOpened, SameBeams, Opened, Ends}
+use Rattle.rules.specs.OneBeam.{Beam}
+use Rattle.rules.specs.LayerChart.{layerChartEntry}
+use Rattle.theorems.specs.DemandThree.{headOpened, gridOpened, SameBeams, Opened, Multiples, Ends}
 use Rattle.theorems.specs.DemandThree.Proof.{perm-mem}
 use Rattle.theorems.specs.DemandThree.Entries.{begins}
 use Rattle.theorems.specs.FloorCost.{InUnits, FloorCost}
 use Rattle.theorems.specs.StationsLists.Words.{Call, handed, night, NoneRefused, SameMap, AsGood}
+use Rattle.theorems.specs.StationsLists.ChartWords.{LoneVotes, NoThicker}
+use Rattle.theorems.specs.StationsLists.Chart.{lone-votes, votes-same, no-thicker}
 use Rattle.theorems.specs.StationsLists.Proof.{ends, costs, same-map, same-calls}
 
 -- of any format, and of any map whose sweep is properly opened
@@ -50,6 +58,23 @@ module _ (f : Format) (h : Head) (g : Grid) (o : Opened h g) where
   -- Request 9's bound of it.
   pub the-floor-at-the-end : (cs : List Call) → NoneRefused f h g cs → InUnits f h g → FloorCost f h g (handed f (h .extents) cs) (night f h g cs)
   the-floor-at-the-end = costs f h g o
+
+  -- THE CHART DOES NOT THICKEN. Two nights that hand over the same beams are charted alike, number for number and refusal for refusal, under the premises of
+  -- demand 3's last sentence.
+  pub the-same-chart : (cs ds : List Call) → NoneRefused f h g cs → NoneRefused f h g ds → SameBeams (handed f (h .extents) cs) (handed f (h .extents) ds)
+      → Multiples f h g → (chart : List ℕ) → layerChartEntry (headOpened h) (night f h g cs .odds) chart ≡ layerChartEntry (headOpened h) (night f h g ds .odds) chart
+  the-same-chart cs ds a b e m chart = ap (λ (odds : List Float). layerChartEntry (headOpened h) odds chart) (the-same-beams cs ds a b e .odds m)
+
+  -- For multiples of the unit and with no premise about the floor: of some beams, in every order, with any repeats and divided among calls in any way, no band
+  -- and neither total of any column is above that of the one map in which every cell that was hit took one lone cloud vote.
+  pub the-chart-does-not-thicken : (bs : List Beam) (lone : List Float) → LoneVotes f h g bs lone → InUnits f h g
+      → (cs : List Call) → NoneRefused f h g cs → SameBeams bs (handed f (h .extents) cs)
+      → (chart : List ℕ) → layerChartEntry (headOpened h) (night f h g cs .odds) chart .answer ≡ given tt → NoThicker (headOpened h) (night f h g cs .odds) lone chart
+  the-chart-does-not-thicken bs lone v u cs a e = no-thicker f h g o cs a u lone (votes-same f h g bs (handed f (h .extents) cs) lone e v)
+
+-- Such a map there is, of any beams.
+pub one-lone-vote-each : (f : Format) (h : Head) (g : Grid) (bs : List Beam) → (odds : List Float) × LoneVotes f h g bs odds
+one-lone-vote-each = lone-votes
 
 -- The night begins with `begin_scan`, which answers the head that the calls are made with, and leaves the stamps that they find.
 pub the-sweep-opens : (h : Head) (g : Grid) → Opened h g → beginScanEntry h (g .stamps) ≡ record { answer = given (headOpened h); lent = gridOpened h g .stamps }

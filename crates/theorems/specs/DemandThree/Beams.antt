@@ -17,7 +17,7 @@ use Rattle.rules.specs.OneBeam.{Beam, Integrated, beamMarks, integratedMarks, i
 use Rattle.laws.specs.Floats.Tests.{or-cases, or-r}
 use Rattle.laws.specs.MarkLists.{marked-append}
 use Rattle.theorems.specs.DemandThree.Orders.{anyCloud, anyMark, kindsOn}
-use Rattle.theorems.specs.DemandThree.{Makes}
+use Rattle.theorems.specs.DemandThree.{Makes, Hit, Touched}
 
 -- the marks of an answer, and of a list of beams
 abbrev pub marksGiven : Answer (List Mark) → List Mark
@@ -65,7 +65,7 @@ module _ (f : Format) (es : List ℕ) (m : Model) (k : ℕ) where
 
 -- ---- a mark of the list is a mark of a beam
 module _ (f : Format) (es : List ℕ) where
-  pub makes-mem : (bs : List Beam) (x : Mark) → Makes f es bs x → List·Memᴰ x (allMarks f es bs)
+  makes-mem : (bs : List Beam) (x : Mark) → Makes f es bs x → List·Memᴰ x (allMarks f es bs)
   makes-mem bs x w = find bs (w .among)
     where
       find : (bs : List Beam) → List·Memᴰ (w .beam) bs → List·Memᴰ x (allMarks f es bs)
@@ -79,7 +79,7 @@ module _ (f : Format) (es : List ℕ) where
           go (inl p) ih = Memᴰ·append-left (allMarks f es bs) (subst (λ (z : Beam). List·Memᴰ x (marksGiven (beamMarks f es z))) p mine)
           go (inr p) ih = Memᴰ·append-right (marksGiven (beamMarks f es c)) (ih p)
 
-  pub mem-makes : (bs : List Beam) (x : Mark) → List·Memᴰ x (allMarks f es bs) → Makes f es bs x
+  mem-makes : (bs : List Beam) (x : Mark) → List·Memᴰ x (allMarks f es bs) → Makes f es bs x
   mem-makes [] x d = absurd (List·Memᴰ·not-nil d)
   mem-makes (b ∷ bs) x d = go (beamMarks f es b) refl (List·Memᴰ·append-cases (marksGiven (beamMarks f es b)) d) (mem-makes bs x)
     where
@@ -105,7 +105,7 @@ on i b = record { place = i; occupied = b }
 on-is : (i : ℕ) (b : Bool) (x : Mark) → x .place ≡ i → x .occupied ≡ b → on i b ≡ x
 on-is i b x p q = λ u. record { place = sym p u; occupied = sym q u }
 
-pub cloud-mem : (i : ℕ) (xs : List Mark) → T (anyCloud (kindsOn i xs)) → List·Memᴰ (on i true) xs
+cloud-mem : (i : ℕ) (xs : List Mark) → T (anyCloud (kindsOn i xs)) → List·Memᴰ (on i true) xs
 cloud-mem i [] t = absurd t
 cloud-mem i (x ∷ xs) t = go (eqb (x .place) i) (eqb→eq (x .place) i) (cloud-mem i xs) t
   where
@@ -118,7 +118,7 @@ cloud-mem i (x ∷ xs) t = go (eqb (x .place) i) (eqb→eq (x .place) i) (cloud-
         kind (inl u) = List·Memᴰ·head (on-is i true x (e tt) (is-true (x .occupied) u))
         kind (inr u) = List·Memᴰ·tail (ih u)
 
-pub mark-mem : (i : ℕ) (xs : List Mark) → T (anyMark (kindsOn i xs)) → (b : Bool) × List·Memᴰ (on i b) xs
+mark-mem : (i : ℕ) (xs : List Mark) → T (anyMark (kindsOn i xs)) → (b : Bool) × List·Memᴰ (on i b) xs
 mark-mem i [] t = absurd t
 mark-mem i (x ∷ xs) t = go (eqb (x .place) i) (eqb→eq (x .place) i) (mark-mem i xs) t
   where
@@ -143,8 +143,27 @@ mem-test i b test now later (x ∷ xs) d = go (List·Memᴰ·cases-cons d) (mem-
         (subst (λ (t : Bool). T (test (cond t (b ∷ kindsOn i xs) (kindsOn i xs)))) (sym (eq-eqb i i refl)) (now (kindsOn i xs)))
     go (inr e) ih = skip (eqb (x .place) i) (ih e)
 
-pub mem-cloud : (i : ℕ) (xs : List Mark) → List·Memᴰ (on i true) xs → T (anyCloud (kindsOn i xs))
+mem-cloud : (i : ℕ) (xs : List Mark) → List·Memᴰ (on i true) xs → T (anyCloud (kindsOn i xs))
 mem-cloud i xs d = mem-test i true anyCloud (λ bs. tt) (λ c bs t. or-r c (anyCloud bs) t) xs d
 
-pub mem-mark : (i : ℕ) (b : Bool) (xs : List Mark) → List·Memᴰ (on i b) xs → T (anyMark (kindsOn i xs))
+mem-mark : (i : ℕ) (b : Bool) (xs : List Mark) → List·Memᴰ (on i b) xs → T (anyMark (kindsOn i xs))
 mem-mark i b xs d = mem-test i b anyMark (λ bs. tt) (λ c bs t. tt) xs d
+
+-- ---- hit and touched, as tests
+module _ (f : Format) (es : List ℕ) (bs : List Beam) (i : ℕ) where
+  abbrev kinds : List Bool
+  kinds = kindsOn i (allMarks f es bs)
+
+  pub hit-test : Hit f es bs i → T (anyCloud kinds)
+  hit-test w = mem-cloud i (allMarks f es bs) (makes-mem f es bs (record { place = i; occupied = true }) w)
+
+  pub test-hit : T (anyCloud kinds) → Hit f es bs i
+  test-hit t = mem-makes f es bs (record { place = i; occupied = true }) (cloud-mem i (allMarks f es bs) t)
+
+  pub touched-test : Touched f es bs i → T (anyMark kinds)
+  touched-test w = mem-mark i (w .0) (allMarks f es bs) (makes-mem f es bs (record { place = i; occupied = w .0 }) (w .1))
+
+  pub test-touched : T (anyMark kinds) → Touched f es bs i
+  test-touched t =
+      let r = mark-mem i (allMarks f es bs) t in
+      (r .0, mem-makes f es bs (record { place = i; occupied = r .0 }) (r .1))

@@ -17,7 +17,7 @@ use Rattle.laws.specs.Floats.Tests.{bool-ext}
 use Rattle.theorems.specs.DemandThree.TakeBack.{alone}
 use Rattle.theorems.specs.DemandThree.Orders.{runs, anyCloud, anyMark, kindsOn, Sized, cleared, clouded, restored, marked-sized, marked-cell, back-step, no-marks}
 use Rattle.theorems.specs.DemandThree.Orders.{clear-marks, cloud-marks, stamp-is, odds-are}
-use Rattle.theorems.specs.DemandThree.Beams.{Taken, allMarks, given-a-count, grid-is, makes-mem, mem-makes, makes-same, cloud-mem, mark-mem, mem-cloud, mem-mark}
+use Rattle.theorems.specs.DemandThree.Beams.{Taken, allMarks, given-a-count, grid-is, makes-same, hit-test, test-hit, touched-test, test-touched}
 use Rattle.theorems.specs.DemandThree.OneCell.{exact}
 use Rattle.theorems.specs.DemandThree.{frameOpened, gridOpened, sweep, Hit, Touched, SameBeams, Sweep, Multiples, cloudAlone, cloudAfterClear, Ends, Settled}
 
@@ -49,7 +49,7 @@ opened-length k stamps = go (leb highestFrame k)
     go false = refl
 
 module _ (f : Format) (h : Head) (g : Grid) (bs : List Beam) (p : Sweep f h g bs) where
-  kinds : ℕ → List Beam → List Bool
+  abbrev kinds : ℕ → List Beam → List Bool
   kinds i cs = kindsOn i (allMarks f (h .extents) cs)
 
   sized : Sized (cells (h .extents)) (gridOpened h g)
@@ -63,7 +63,6 @@ module _ (f : Format) (h : Head) (g : Grid) (bs : List Beam) (p : Sweep f h g bs
   -- each cell after a list of beams
   cell-after : (cs : List Beam) → Taken f (h .extents) cs → (i : ℕ) → i < cells (h .extents)
       → cellAt (sweep f h g cs .grid) i ≡ runs f (stepsAt (h .model) i) (frameOpened h) (kinds i cs) (cellAt (gridOpened h g) i)
-  unfolding kinds
   cell-after cs t i l =
       ap (λ (x : Grid). cellAt x i) (grid-is f (h .extents) (h .model) (frameOpened h) cs (gridOpened h g) t)
       ∙ marked-cell f (h .model) (frameOpened h) (allMarks f (h .extents) cs) (gridOpened h g) (cells (h .extents)) i sized l
@@ -73,37 +72,18 @@ module _ (f : Format) (h : Head) (g : Grid) (bs : List Beam) (p : Sweep f h g bs
       subst (λ (x : Grid). Sized (cells (h .extents)) x) (sym (grid-is f (h .extents) (h .model) (frameOpened h) cs (gridOpened h g) t))
       (marked-sized f (h .model) (frameOpened h) (allMarks f (h .extents) cs) (gridOpened h g) (cells (h .extents)) sized)
 
-  -- hit and touched, as tests
-  hit-test : (cs : List Beam) (i : ℕ) → Hit f (h .extents) cs i → T (anyCloud (kinds i cs))
-  unfolding kinds
-  hit-test cs i w = mem-cloud i (allMarks f (h .extents) cs) (makes-mem f (h .extents) cs (record { place = i; occupied = true }) w)
-
-  test-hit : (cs : List Beam) (i : ℕ) → T (anyCloud (kinds i cs)) → Hit f (h .extents) cs i
-  unfolding kinds
-  test-hit cs i t = mem-makes f (h .extents) cs (record { place = i; occupied = true }) (cloud-mem i (allMarks f (h .extents) cs) t)
-
-  touched-test : (cs : List Beam) (i : ℕ) → Touched f (h .extents) cs i → T (anyMark (kinds i cs))
-  unfolding kinds
-  touched-test cs i w = mem-mark i (w .0) (allMarks f (h .extents) cs) (makes-mem f (h .extents) cs (record { place = i; occupied = w .0 }) (w .1))
-
-  test-touched : (cs : List Beam) (i : ℕ) → T (anyMark (kinds i cs)) → Touched f (h .extents) cs i
-  unfolding kinds
-  test-touched cs i t =
-      let r = mark-mem i (allMarks f (h .extents) cs) t in
-      (r .0, mem-makes f (h .extents) cs (record { place = i; occupied = r .0 }) (r .1))
-
   -- how the cells end
   clear-cell : (i : ℕ) → i < cells (h .extents) → Touched f (h .extents) bs i → ¬ Hit f (h .extents) bs i
       → cellAt (sweep f h g bs .grid) i ≡ cleared f (stepsAt (h .model) i) (frameOpened h) (getD (g .odds) i nan)
   clear-cell i l w z =
       cell-after bs (p .taken) i l
-      ∙ clear-marks f (stepsAt (h .model) i) (frameOpened h) (cellAt (gridOpened h g) i) (p .opened .unstamped i l) (kinds i bs) (touched-test bs i w) (λ t. z (test-hit bs i t))
+      ∙ clear-marks f (stepsAt (h .model) i) (frameOpened h) (cellAt (gridOpened h g) i) (p .opened .unstamped i l) (kinds i bs) (touched-test f (h .extents) bs i w) (λ t. z (test-hit f (h .extents) bs i t))
 
   cloud-cell : (i : ℕ) → i < cells (h .extents) → Hit f (h .extents) bs i
       → (cellAt (sweep f h g bs .grid) i ≡ clouded f (stepsAt (h .model) i) (frameOpened h) (getD (g .odds) i nan))
       ⊎ (cellAt (sweep f h g bs .grid) i ≡ restored f (stepsAt (h .model) i) (frameOpened h) (freed f (stepsAt (h .model) i) (getD (g .odds) i nan)))
   cloud-cell i l w =
-      go (cloud-marks f (stepsAt (h .model) i) (frameOpened h) (cellAt (gridOpened h g) i) (p .opened .unstamped i l) (kinds i bs) (hit-test bs i w))
+      go (cloud-marks f (stepsAt (h .model) i) (frameOpened h) (cellAt (gridOpened h g) i) (p .opened .unstamped i l) (kinds i bs) (hit-test f (h .extents) bs i w))
     where
       s : Steps
       s = stepsAt (h .model) i
@@ -141,7 +121,7 @@ module _ (f : Format) (h : Head) (g : Grid) (bs : List Beam) (p : Sweep f h g bs
         clear-stamp = λ i l w z. ap (λ (c : Cell). c .stamp) (clear-cell i l w z);
         untouched =
             λ i l z. cell-after bs (p .taken) i l ∙ no-marks f (stepsAt (h .model) i) (frameOpened h) (cellAt (gridOpened h g) i) (p .opened .unstamped i l)
-            (kinds i bs) (λ t. z (test-touched bs i t));
+            (kinds i bs) (λ t. z (test-touched f (h .extents) bs i t));
         clear-odds = λ i l w z. ap (λ (c : Cell). c .odds) (clear-cell i l w z);
         cloud-odds = cloud-odds;
       }
@@ -154,14 +134,14 @@ module _ (f : Format) (h : Head) (g : Grid) (bs : List Beam) (p : Sweep f h g bs
     cloud-same : (i : ℕ) → anyCloud (kinds i bs) ≡ anyCloud (kinds i cs)
     cloud-same i =
         let x : Mark = record { place = i; occupied = true } in
-        bool-ext (anyCloud (kinds i bs)) (anyCloud (kinds i cs)) (λ t. hit-test cs i (makes-same f (h .extents) bs cs x (e .there) (test-hit bs i t)))
-        (λ t. hit-test bs i (makes-same f (h .extents) cs bs x (e .back) (test-hit cs i t)))
+        bool-ext (anyCloud (kinds i bs)) (anyCloud (kinds i cs)) (λ t. hit-test f (h .extents) cs i (makes-same f (h .extents) bs cs x (e .there) (test-hit f (h .extents) bs i t)))
+        (λ t. hit-test f (h .extents) bs i (makes-same f (h .extents) cs bs x (e .back) (test-hit f (h .extents) cs i t)))
 
     mark-same : (i : ℕ) → anyMark (kinds i bs) ≡ anyMark (kinds i cs)
     mark-same i =
         bool-ext (anyMark (kinds i bs)) (anyMark (kinds i cs))
-        (λ t. let w = test-touched bs i t in touched-test cs i (w .0, makes-same f (h .extents) bs cs (record { place = i; occupied = w .0 }) (e .there) (w .1)))
-        (λ t. let w = test-touched cs i t in touched-test bs i (w .0, makes-same f (h .extents) cs bs (record { place = i; occupied = w .0 }) (e .back) (w .1)))
+        (λ t. let w = test-touched f (h .extents) bs i t in touched-test f (h .extents) cs i (w .0, makes-same f (h .extents) bs cs (record { place = i; occupied = w .0 }) (e .there) (w .1)))
+        (λ t. let w = test-touched f (h .extents) cs i t in touched-test f (h .extents) bs i (w .0, makes-same f (h .extents) cs bs (record { place = i; occupied = w .0 }) (e .back) (w .1)))
 
     stamps-same : sweep f h g bs .grid .stamps ≡ sweep f h g cs .grid .stamps
     stamps-same =

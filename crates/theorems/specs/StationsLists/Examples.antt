@@ -21,11 +21,11 @@ use Rattle.theorems.specs.DemandThree.Examples.{plus, head3, grid3, clou
 use Rattle.theorems.specs.StationsLists.Words.{Call, ray, flat-list, slice, file, upright, outcome, left, Accepted, night, NoneRefused}
 
 -- none is refused, as a test
-abbrev accepts : Format → Head → List Call → Grid → Bool
+abbrev pub accepts : Format → Head → List Call → Grid → Bool
 accepts f h [] g = true
 accepts f h (c ∷ cs) g = isGiven (outcome f h c g .answer) && accepts f h cs (outcome f h c g .lent)
 
-accepted : (f : Format) (h : Head) (cs : List Call) (g : Grid) → T (accepts f h cs g) → Accepted f h cs g
+pub accepted : (f : Format) (h : Head) (cs : List Call) (g : Grid) → T (accepts f h cs g) → Accepted f h cs g
 accepted f h [] g t = tt
 accepted f h (c ∷ cs) g t =
     let first = isGiven (outcome f h c g .answer) in
@@ -39,11 +39,11 @@ answers f h (c ∷ cs) g = outcome f h c g .answer ∷ answers f h cs (outcome f
 
 -- ---- the night, on the map of 2 by 2 by 3
 -- a station's list, as flat numbers: from (0.5, 0.5, 0.5) to (1.5, 0.5, 0.5), a Hit in cell 1
-abbrev list : Call
+abbrev pub list : Call
 list = flat-list (halfF ∷ halfF ∷ halfF ∷ plus 3 2 ∷ halfF ∷ halfF ∷ []) (1 ∷ [])
 
 -- another's, as structs: it crosses cell 1
-abbrev structs : Call
+abbrev pub structs : Call
 structs = slice (clear (halfF ∷ []) ∷ [])
 
 -- station 7 mails the Hit again and one on the layer above, an older one looks straight up from cell 1, a keeper sends the first beam again
@@ -60,7 +60,7 @@ abbrev backwards : List Call
 backwards = ray (cloud (halfF ∷ [])) ∷ straight ∷ mailed ∷ list ∷ structs ∷ []
 
 -- Opening this opens what the entries compute through.
-unfoldable openedEntries : ℕ
+unfoldable pub openedEntries : ℕ
 unfolding firstTooSmall extentsRefusal headRefusal updateRayEntry updateScanEntry updateBeamsEntry lastExtent rising cutsBelow cutsInBounds allBits flatShape beamsOf
 openedEntries = 0
 
