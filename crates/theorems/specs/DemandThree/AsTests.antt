@@ -13,7 +13,7 @@ use lib.Ieee.{nan, Format}
 use lib.Ieee.Fits.{and-i, and-l, and-r, eq→eqb}
 use Rattle.rules.specs.RefusalNumbers.{Answer, given, refused}
 use Rattle.rules.specs.TheGridAndItsBounds.{Head, Grid, cells, extentsInBounds, bounded, onePerCell}
-use Rattle.rules.specs.MarksAndFrames.{Mark, stepsAt, frameOf}
+use Rattle.rules.specs.MarksAndFrames.{stepsAt, frameOf}
 use Rattle.rules.specs.OneBeam.{Beam, beamMarks}
 use Rattle.theorems.specs.DemandThree.Proof.{opened-length}
 use Rattle.theorems.specs.DemandThree.{frameOpened, gridOpened, Opened, Sweep, Multiples, oddsWithin, ofUnits, modelOfUnits, clearOfFloor}
@@ -113,10 +113,11 @@ opened-holds h g t₀ =
 
 pub sweep-holds : (f : Format) (h : Head) (g : Grid) (bs : List Beam) → T (allPass (sweepTests f h g bs)) → Sweep f h g bs
 sweep-holds f h g bs t =
-    let p = split-tests (openedTests h g) (every (λ b. isGiven (beamMarks f (h .extents) b)) bs ∷ []) t in
+    let test : Beam → Bool = λ b. isGiven (beamMarks f (h .extents) b) in
+    let p = split-tests (openedTests h g) (every test bs ∷ []) t in
     record {
       opened = opened-holds h g (p .0);
-      taken = λ b d. is-given (beamMarks f (h .extents) b) (every-of (λ b. isGiven (beamMarks f (h .extents) b)) bs (first (every (λ b. isGiven (beamMarks f (h .extents) b)) bs) [] (p .1)) b d);
+      taken = λ b d. is-given (beamMarks f (h .extents) b) (every-of test bs (first (every test bs) [] (p .1)) b d);
     }
 
 pub multiples-hold : (f : Format) (h : Head) (g : Grid) → T (onePerCell (h .extents) (length (g .odds))) → T (allPass (multiplesTests f h g)) → Multiples f h g

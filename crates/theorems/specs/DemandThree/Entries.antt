@@ -1,23 +1,23 @@
 -- Demand 3 said of the entries: what `begin_scan` and then a slice of beams, or `update_scan`, answer and leave, in a sweep that meets the premises,
--- is the sweep that the theorem speaks of. So its conclusions are about the lent lists afterwards. Assumes nothing.
-use Prim.Native.Nat.{ℕ, suc, _+_, _≤_, _<_}
-use mathlib.Core.Bool.{Bool, true, false, cond, not, _&&_}
+-- is the sweep that the theorem speaks of. `StationsLists` says it of any calls that are not refused. Assumes nothing.
+use Prim.Native.Nat.{ℕ, suc, _+_}
+use mathlib.Core.Bool.{Bool, true, false, cond, _&&_}
 use mathlib.Core.List.{List, [], _∷_}
-use mathlib.Core.Option.{Option, none}
-use mathlib.Core.Path.{_≡_, refl, sym, ap, _∙_}
+use mathlib.Core.Option.{none}
+use mathlib.Core.Path.{_≡_, refl, _∙_}
 use native.Mathlib.Omega.{arith}
-use lib.Dec.{T, ltb, leb, eqb, leb→le, ltb→lt}
+use lib.Dec.{T, ltb, leb, leb→le}
 use lib.Ieee.{Float, Format}
 use lib.Ieee.Fits.{and-l, and-r}
 use lib.ListN.{length}
 use borrow.Author.Tests.{le-ltb, lt-ltb, le-leb, leb-false}
-use Rattle.rules.specs.RefusalNumbers.{Refusal, given}
-use Rattle.rules.specs.RefusalNumbers.Entries.{firstTooSmall, extentsRefusal, headRefusal, Uses, Outcome, ofIntegrated, usesOf, begin-scan, beams, beginScanEntry, updateScanEntry, updateBeamsEntry}
-use Rattle.rules.specs.TheGridAndItsBounds.{Model, Head, Grid, leastExtent, allAtLeast, fitsCapacity, extentsInBounds, bounded, cutsInBounds, onePerCell}
+use Rattle.rules.specs.RefusalNumbers.{given}
+use Rattle.rules.specs.RefusalNumbers.Entries.{firstTooSmall, extentsRefusal, headRefusal, ofIntegrated, beginScanEntry, updateScanEntry, updateBeamsEntry}
+use Rattle.rules.specs.TheGridAndItsBounds.{Head, Grid, leastExtent, allAtLeast, fitsCapacity, extentsInBounds, bounded, cutsInBounds, onePerCell}
 use Rattle.rules.specs.MarksAndFrames.{highestFrame, openFrame, openedFrame}
 use Rattle.rules.specs.OneBeam.{Beam, flatShape, beamsOf}
-use Rattle.theorems.specs.DemandThree.{Opened, Sweep, Settled, headOpened, gridOpened, sweep}
-use Rattle.theorems.specs.DemandThree.Proof.{demand-three, opened-length}
+use Rattle.theorems.specs.DemandThree.{Opened, Sweep, headOpened, gridOpened, sweep}
+use Rattle.theorems.specs.DemandThree.Proof.{opened-length}
 use Rattle.theorems.specs.FlatList.{is-true, flat-as-structs}
 
 none-too-small : (k : ℕ) (es : List ℕ) → T (allAtLeast leastExtent es) → firstTooSmall k es ≡ none
@@ -62,18 +62,8 @@ module _ (f : Format) (h : Head) (g : Grid) (bs : List Beam) (s : Sweep f h g bs
       )
       refl
 
-  -- so whatever meets its contract leaves lists of which demand 3 holds
-  pub settles-slice : T (cutsInBounds (h .extents) (h .model)) → (out : Outcome ℕ Grid) → out ≡ updateBeamsEntry f (headOpened h) bs (gridOpened h g)
-      → (out .lent ≡ sweep f h g bs .grid) × Settled f h g bs
-  settles-slice cuts out e = (ap (λ (o : Outcome ℕ Grid). o .lent) (e ∙ integrates cuts), demand-three f h g bs s)
-
 -- the same of `update_scan`, whose flat list is those beams
 module _ (f : Format) (h : Head) (g : Grid) (numbers : List Float) (hits : List ℕ) (s : Sweep f h g (beamsOf (length (h .extents)) numbers hits)) where
   pub scans : T (cutsInBounds (h .extents) (h .model)) → T (flatShape (length (h .extents)) numbers hits)
       → updateScanEntry f (headOpened h) numbers hits (gridOpened h g) ≡ ofIntegrated (sweep f h g (beamsOf (length (h .extents)) numbers hits))
   scans cuts t = flat-as-structs f (headOpened h) numbers hits (gridOpened h g) t ∙ integrates f h g (beamsOf (length (h .extents)) numbers hits) s cuts
-
-  pub settles : T (cutsInBounds (h .extents) (h .model)) → T (flatShape (length (h .extents)) numbers hits) → (out : Outcome ℕ Grid) → out ≡ updateScanEntry f (headOpened h) numbers hits (gridOpened h g)
-      → (out .lent ≡ sweep f h g (beamsOf (length (h .extents)) numbers hits) .grid) × Settled f h g (beamsOf (length (h .extents)) numbers hits)
-  settles cuts t out e =
-      settles-slice f h g (beamsOf (length (h .extents)) numbers hits) s cuts out (e ∙ flat-as-structs f (headOpened h) numbers hits (gridOpened h g) t)

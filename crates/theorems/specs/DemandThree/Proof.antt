@@ -6,7 +6,7 @@ use mathlib.Core.List.{List·Permᴰ, List·Permᴰ·nil, List·Permᴰ·cons, L
 use mathlib.Core.Bool.{Bool, true, false, cond}
 use Prim.Native.Nat.{ℕ, _<_}
 use native.Mathlib.Omega.{arith}
-use lib.Dec.{T, leb, eqb→eq}
+use lib.Dec.{leb, eqb→eq}
 use lib.ListN.{length, getD, replicate, length-replicate}
 use lib.Seq.{ext-getD}
 use lib.Ieee.{Float, nan, Format}
@@ -77,7 +77,8 @@ module _ (f : Format) (h : Head) (g : Grid) (bs : List Beam) (p : Sweep f h g bs
       → cellAt (sweep f h g bs .grid) i ≡ cleared f (stepsAt (h .model) i) (frameOpened h) (getD (g .odds) i nan)
   clear-cell i l w z =
       cell-after bs (p .taken) i l
-      ∙ clear-marks f (stepsAt (h .model) i) (frameOpened h) (cellAt (gridOpened h g) i) (p .opened .unstamped i l) (kinds i bs) (touched-test f (h .extents) bs i w) (λ t. z (test-hit f (h .extents) bs i t))
+      ∙ clear-marks f (stepsAt (h .model) i) (frameOpened h) (cellAt (gridOpened h g) i) (p .opened .unstamped i l) (kinds i bs)
+      (touched-test f (h .extents) bs i w) (λ t. z (test-hit f (h .extents) bs i t))
 
   cloud-cell : (i : ℕ) → i < cells (h .extents) → Hit f (h .extents) bs i
       → (cellAt (sweep f h g bs .grid) i ≡ clouded f (stepsAt (h .model) i) (frameOpened h) (getD (g .odds) i nan))
@@ -140,8 +141,10 @@ module _ (f : Format) (h : Head) (g : Grid) (bs : List Beam) (p : Sweep f h g bs
     mark-same : (i : ℕ) → anyMark (kinds i bs) ≡ anyMark (kinds i cs)
     mark-same i =
         bool-ext (anyMark (kinds i bs)) (anyMark (kinds i cs))
-        (λ t. let w = test-touched f (h .extents) bs i t in touched-test f (h .extents) cs i (w .0, makes-same f (h .extents) bs cs (record { place = i; occupied = w .0 }) (e .there) (w .1)))
-        (λ t. let w = test-touched f (h .extents) cs i t in touched-test f (h .extents) bs i (w .0, makes-same f (h .extents) cs bs (record { place = i; occupied = w .0 }) (e .back) (w .1)))
+        (λ t. let w = test-touched f (h .extents) bs i t in
+        touched-test f (h .extents) cs i (w .0, makes-same f (h .extents) bs cs (record { place = i; occupied = w .0 }) (e .there) (w .1)))
+        (λ t. let w = test-touched f (h .extents) cs i t in
+        touched-test f (h .extents) bs i (w .0, makes-same f (h .extents) cs bs (record { place = i; occupied = w .0 }) (e .back) (w .1)))
 
     stamps-same : sweep f h g bs .grid .stamps ≡ sweep f h g cs .grid .stamps
     stamps-same =

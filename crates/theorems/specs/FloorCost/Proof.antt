@@ -6,22 +6,20 @@ use mathlib.Core.Bool.{false}
 use Prim.Native.Nat.{ℕ, _+_, _*_, _≤_, _<_, min, max}
 use native.Mathlib.Omega.{arith}
 use lib.Dec.{T, le→leb}
-use lib.ListN.{length, getD}
+use lib.ListN.{getD}
 use lib.Ieee.{Float, nan, Format, add, le}
 use lib.Ieee.Fits.{and-l, and-r}
-use Rattle.rules.specs.TheGridAndItsBounds.{Model, Head, Grid, cells, bounded, floor, cutsInBounds}
+use Rattle.rules.specs.TheGridAndItsBounds.{Model, Head, Grid, cells, bounded, floor}
 use Rattle.rules.specs.MarksAndFrames.{Steps, pairFor, stepsAt, stampOf, freed, occupy, cellAt}
-use Rattle.rules.specs.OneBeam.{Beam, flatShape, beamsOf}
-use Rattle.rules.specs.RefusalNumbers.Entries.{Outcome, updateScanEntry, updateBeamsEntry}
+use Rattle.rules.specs.OneBeam.{Beam}
 use Rattle.laws.specs.Floats.Tests.{order}
-use Rattle.theorems.specs.DemandThree.{Sweep, sweep, Hit, frameOpened, headOpened, gridOpened, oddsWithin, ofUnits, modelOfUnits, cloudAlone, cloudAfterClear}
+use Rattle.theorems.specs.DemandThree.{Sweep, sweep, Hit, frameOpened, oddsWithin, ofUnits, modelOfUnits, cloudAlone, cloudAfterClear}
 use Rattle.theorems.specs.DemandThree.Dyadic.{Units, dif, dif-units, add-dif, le-units}
 use Rattle.theorems.specs.DemandThree.Multiple.{many, plus, less}
 use Rattle.theorems.specs.DemandThree.TakeBack.{alone, takenBack, most, most-fits, StepUnits, free-is, freed-is, alone-is, back-low, take-back}
 use Rattle.theorems.specs.DemandThree.OneCell.{above, in-units, near-zero, step-units, of-units}
 use Rattle.theorems.specs.DemandThree.Orders.{back-step}
 use Rattle.theorems.specs.DemandThree.Proof.{demand-three}
-use Rattle.theorems.specs.DemandThree.Entries.{settles-slice, settles}
 use Rattle.theorems.specs.FloorCost.{InUnits, loneVote, FloorCost}
 
 -- at most the one and at least the other less a clear step
@@ -153,13 +151,3 @@ module _ (f : Format) (h : Head) (g : Grid) (bs : List Beam) (p : Sweep f h g bs
 
   pub floor-cost : FloorCost f h g bs (sweep f h g bs .grid)
   floor-cost = record { no-higher = λ i l w. hit-cell i l w .no-higher; one-clear-step = λ i l w. hit-cell i l w .one-clear-step }
-
-  -- so whatever meets the contract of a slice of beams, or of `update_scan`, leaves lists of which it holds
-  pub costs-slice : T (cutsInBounds (h .extents) (h .model)) → (out : Outcome ℕ Grid) → out ≡ updateBeamsEntry f (headOpened h) bs (gridOpened h g)
-      → (out .lent ≡ sweep f h g bs .grid) × FloorCost f h g bs (sweep f h g bs .grid)
-  costs-slice cuts out q = (settles-slice f h g bs p cuts out q .0, floor-cost)
-
-module _ (f : Format) (h : Head) (g : Grid) (numbers : List Float) (hits : List ℕ) (p : Sweep f h g (beamsOf (length (h .extents)) numbers hits)) (e : InUnits f h g) where
-  pub costs : T (cutsInBounds (h .extents) (h .model)) → T (flatShape (length (h .extents)) numbers hits) → (out : Outcome ℕ Grid) → out ≡ updateScanEntry f (headOpened h) numbers hits (gridOpened h g)
-      → (out .lent ≡ sweep f h g (beamsOf (length (h .extents)) numbers hits) .grid) × FloorCost f h g (beamsOf (length (h .extents)) numbers hits) (sweep f h g (beamsOf (length (h .extents)) numbers hits) .grid)
-  costs cuts t out q = (settles f h g numbers hits p cuts t out q .0, floor-cost f h g (beamsOf (length (h .extents)) numbers hits) p e)

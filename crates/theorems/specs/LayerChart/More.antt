@@ -1,16 +1,16 @@
 -- Of two maps of which one has no lower grade in any cell: no number of its chart is lower; and where the other holds no NaN it holds none. Assumes nothing.
-use Prim.Native.Nat.{ℕ, zero, suc, _+_, _-_, _*_, _≤_, _<_}
-use mathlib.Core.Path.{_≡_, refl, sym, ap, _∙_}
+use Prim.Native.Nat.{ℕ, zero, suc, _+_, _-_, _*_, _≤_}
+use mathlib.Core.Path.{_≡_, refl, sym, ap}
 use mathlib.Core.Bool.{Bool, true, false, cond, _||_}
 use mathlib.Core.List.{List, [], _∷_, _++_}
-use mathlib.Core.Option.{Option, some, none}
+use mathlib.Core.Option.{some, none}
 use native.Mathlib.Nat.{mul-le-mul}
 use native.Mathlib.Omega.{arith}
 use lib.Dec.{ltb}
 use lib.ListN.{getD}
 use lib.Ieee.{Float, nan, isNan}
 use borrow.Author.Tests.{ltb-true, ltb-false}
-use Rattle.rules.specs.RefusalNumbers.{Refusal}
+use Rattle.rules.specs.RefusalNumbers.{nanColumn}
 use Rattle.rules.specs.LayerChart.{Cuts, eighths, larger, bandCover, randomOverlap, stacked, cellsBetween, fiveOf, columnChart, chartOf, anyNan, firstNan}
 use Rattle.chart.proofs.Bounds.{larger-most}
 use Rattle.theorems.specs.LayerChart.{NoneAbove}
@@ -93,6 +93,6 @@ module _ (odds other : List Float) (good : (p : ℕ) → isNan (getD odds p nan)
     where
       go : (b : Bool) → anyNan (stacked columns odds (layers - 0) (column + 0 * columns)) ≡ b
           → (firstNan columns layers odds n (suc column) ≡ none → firstNan columns layers other n (suc column) ≡ none)
-          → cond b (some (Rattle.rules.specs.RefusalNumbers.nanColumn column)) (firstNan columns layers odds n (suc column)) ≡ none → firstNan columns layers other (suc n) column ≡ none
+          → cond b (some (nanColumn column)) (firstNan columns layers odds n (suc column)) ≡ none → firstNan columns layers other (suc n) column ≡ none
       go true q ih w = let z : _≡_ {A = ℕ} 0 1 = cc in absurd (omega arith)
       go false q ih w = rw (no-nan columns (layers - 0) (column + 0 * columns) q) (ih w)

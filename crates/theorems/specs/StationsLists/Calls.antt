@@ -2,11 +2,10 @@
 -- calls before it, so the same calls in another order, or repeated, are accepted too. Assumes nothing.
 use Prim.Native.Nat.{ℕ}
 use mathlib.Core.Path.{_≡_, refl, sym, ap, ap₂, _∙_, subst}
-use mathlib.Core.Logic.{_⊎_, inl, inr}
+use mathlib.Core.Logic.{inl, inr}
 use mathlib.Core.List.{List, [], _∷_, _++_, append-assoc, List·Memᴰ, List·Memᴰ·head, List·Memᴰ·tail, List·Memᴰ·cases-cons, List·Memᴰ·append-cases, List·Memᴰ·not-nil}
 use mathlib.Core.List.{Memᴰ·append-left, Memᴰ·append-right}
-use mathlib.Core.Option.{Option, none}
-use lib.ListN.{length}
+use mathlib.Core.Option.{none}
 use lib.Ieee.{Format}
 use Rattle.rules.specs.RefusalNumbers.Entries.{headRefusal, usesOf, beams}
 use Rattle.rules.specs.TheGridAndItsBounds.{Head, Grid}

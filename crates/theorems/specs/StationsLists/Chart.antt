@@ -1,17 +1,17 @@
 -- The chart of what a night leaves: each cell has no higher grade than a lone cloud vote would give it, or the very odds; so no number of the chart is higher.
 -- And the map to compare with is there, whatever the beams. Assumes nothing.
 use Prim.Native.Nat.{ℕ, zero, suc, _+_, _*_, _≤_, _<_}
-use mathlib.Core.Path.{_≡_, refl, sym, ap, ap₂, _∙_, subst}
+use mathlib.Core.Path.{_≡_, refl, sym, ap, _∙_, subst}
 use mathlib.Core.Logic.{_⊎_, inl, inr}
 use mathlib.Core.Bool.{Bool, true, false, cond}
-use mathlib.Core.List.{List, [], _∷_, _++_}
+use mathlib.Core.List.{List, [], _∷_}
 use mathlib.Core.Option.{Option, some, none}
 use native.Mathlib.Nat.{not-suc-le-zero, le-of-suc-le-suc, zero-add, add-zero, add-suc, suc-add}
 use native.Mathlib.Omega.{arith}
 use lib.Dec.{T, leb, eqb→eq}
 use lib.ListN.{length, getD, drop, List·getD-eq-default}
 use lib.Ieee.{Float, nan, inf, fin, Format, isNan, le, lt, eq}
-use Rattle.rules.specs.RefusalNumbers.{Refusal, given, refused, noRoom}
+use Rattle.rules.specs.RefusalNumbers.{Refusal, given, noRoom}
 use Rattle.rules.specs.RefusalNumbers.Entries.{Outcome, orElse, unlessHolds, unlessRefused, headRefusal}
 use Rattle.rules.specs.TheGridAndItsBounds.{Head, Grid, cells, onePerCell, lastExtent, layerOf}
 use Rattle.rules.specs.MarksAndFrames.{Cell, stepsAt, freed}
@@ -187,5 +187,6 @@ module _ (f : Format) (h : Head) (g : Grid) (o : Opened h g) (cs : List Call) (a
         charted-too = rw (t, r .0, s) refl;
         none-above =
             rw (t, p .0, r .0, s, r .1)
-            (above-joined (chartOver odds) (drop (5 * columns) chart) (chartOver other) (drop (5 * columns) chart) (chart-more (h .model .ceiling) odds other grades columns layers (cutsIn (h .model)) columns) (above-same (drop (5 * columns) chart)));
+            (above-joined (chartOver odds) (drop (5 * columns) chart) (chartOver other) (drop (5 * columns) chart)
+            (chart-more (h .model .ceiling) odds other grades columns layers (cutsIn (h .model)) columns) (above-same (drop (5 * columns) chart)));
       }

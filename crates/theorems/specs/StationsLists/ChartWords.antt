@@ -5,7 +5,6 @@ use mathlib.Core.List.{List}
 use lib.ListN.{length, getD}
 use lib.Ieee.{Float, nan, Format}
 use Rattle.rules.specs.RefusalNumbers.{given}
-use Rattle.rules.specs.RefusalNumbers.Entries.{Outcome}
 use Rattle.rules.specs.TheGridAndItsBounds.{Head, Grid, cells}
 use Rattle.rules.specs.MarksAndFrames.{stepsAt, freed}
 use Rattle.rules.specs.OneBeam.{Beam}

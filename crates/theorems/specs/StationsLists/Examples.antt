@@ -2,23 +2,23 @@
 -- backwards, whose counts differ and whose stamps and odds do not. By computation of the definitions.
 use Prim.Native.Nat.{ℕ}
 use mathlib.Core.Path.{_≡_, refl}
-use mathlib.Core.Bool.{Bool, true, false, _&&_}
-use mathlib.Core.List.{List, [], _∷_, _++_}
+use mathlib.Core.Bool.{Bool, true, _&&_}
+use mathlib.Core.List.{List, [], _∷_}
 use lib.Dec.{T}
-use lib.Ieee.{Float, Format, binary64, toBits}
+use lib.Ieee.{Format, binary64, toBits}
 use lib.Ieee.Fits.{and-l, and-r}
 use Rattle.rules.specs.Floats.{halfF}
 use Rattle.rules.specs.RefusalNumbers.{Answer, given}
 use Rattle.rules.specs.RefusalNumbers.Entries.{firstTooSmall, extentsRefusal, headRefusal, updateRayEntry, updateScanEntry, updateBeamsEntry}
 use Rattle.rules.specs.TheGridAndItsBounds.{Head, Grid, lastExtent, rising, cutsBelow, cutsInBounds}
-use Rattle.rules.specs.OneBeam.{Beam, allBits, flatShape, beamsOf}
+use Rattle.rules.specs.OneBeam.{allBits, flatShape, beamsOf}
 use Rattle.rules.specs.Fields.{littleEndian, fromLittleEndian, field, fieldHere, floatBytes, floatsIn}
 use Rattle.rules.specs.SweepFile.{beamBytes, beamsBytes, sweepBytes, beamHere, beamIn, sweepEndIn, beamsIn, stationIn, sweepOf, updateSweepEntry}
-use Rattle.rules.specs.VerticalBeam.{Vertical, inProfile, columnPlace, columnMarks, endsOccupied, cellsAbove, verticalMarks, updateVerticalEntry}
+use Rattle.rules.specs.VerticalBeam.{inProfile, columnPlace, columnMarks, endsOccupied, cellsAbove, verticalMarks, updateVerticalEntry}
 use Rattle.theorems.specs.DemandThree.{headOpened, gridOpened, Opened, Multiples}
 use Rattle.theorems.specs.DemandThree.AsTests.{isGiven, is-given, opened-holds, multiples-hold}
 use Rattle.theorems.specs.DemandThree.Examples.{plus, head3, grid3, cloud, clear, opened}
-use Rattle.theorems.specs.StationsLists.Words.{Call, ray, flat-list, slice, file, upright, outcome, left, Accepted, night, NoneRefused}
+use Rattle.theorems.specs.StationsLists.Words.{Call, ray, flat-list, slice, file, upright, outcome, Accepted, night, NoneRefused}
 
 -- none is refused, as a test
 abbrev pub accepts : Format → Head → List Call → Grid → Bool
@@ -64,8 +64,12 @@ unfoldable pub openedEntries : ℕ
 unfolding firstTooSmall extentsRefusal headRefusal updateRayEntry updateScanEntry updateBeamsEntry lastExtent rising cutsBelow cutsInBounds allBits flatShape beamsOf
 openedEntries = 0
 
+unfoldable openedBytes : ℕ
+unfolding littleEndian fromLittleEndian field fieldHere floatBytes floatsIn toBits
+openedBytes = 0
+
 unfoldable openedFile : ℕ
-unfolding littleEndian fromLittleEndian field fieldHere floatBytes floatsIn beamBytes beamsBytes sweepBytes beamHere beamIn sweepEndIn beamsIn stationIn sweepOf updateSweepEntry toBits
+unfolding openedBytes beamBytes beamsBytes sweepBytes beamHere beamIn sweepEndIn beamsIn stationIn sweepOf updateSweepEntry
 openedFile = 0
 
 unfoldable openedProfile : ℕ

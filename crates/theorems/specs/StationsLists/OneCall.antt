@@ -2,24 +2,25 @@
 -- marks of the beams that it hands over. Assumes nothing.
 use Prim.Native.Nat.{ℕ, suc, _+_}
 use mathlib.Core.Path.{_≡_, refl, sym, ap, _∙_, subst}
-use mathlib.Core.Logic.{_⊎_, inl, inr}
+use mathlib.Core.Logic.{inl, inr}
 use mathlib.Core.Bool.{Bool, true, false}
-use mathlib.Core.List.{List, [], _∷_, _++_, List·Memᴰ, List·Memᴰ·head, List·Memᴰ·cases-cons, List·Memᴰ·not-nil}
+use mathlib.Core.List.{List, [], _∷_, _++_, List·Memᴰ·head, List·Memᴰ·cases-cons, List·Memᴰ·not-nil}
 use mathlib.Core.Option.{Option, some, none}
 use native.Mathlib.Omega.{arith}
 use lib.Dec.{T}
 use lib.ListN.{length}
 use lib.Ieee.{Float, Format}
 use Rattle.rules.specs.RefusalNumbers.{Refusal, Answer, given, refused, andThen, badBeams}
-use Rattle.rules.specs.RefusalNumbers.Entries.{Outcome, orElse, unlessHolds, unlessRefused, answered, headRefusal, usesOf, beams, ofIntegrated, updateRayEntry, updateScanEntry, updateBeamsEntry}
+use Rattle.rules.specs.RefusalNumbers.Entries.{Outcome, orElse, unlessHolds, unlessRefused, answered, headRefusal, usesOf, beams, ofIntegrated}
+use Rattle.rules.specs.RefusalNumbers.Entries.{updateRayEntry, updateScanEntry, updateBeamsEntry}
 use Rattle.rules.specs.TheGridAndItsBounds.{Model, Head, Grid}
 use Rattle.rules.specs.MarksAndFrames.{Mark, changes, marked}
-use Rattle.rules.specs.OneBeam.{Beam, Integrated, beamMarks, integratedMarks, integratedBeam, orStop, integratedFrom, integrated, flatShape, beamsOf}
-use Rattle.rules.specs.SweepFile.{Sweep, Swept, sweepOf, sweptBy, sweepAnswer, updateSweepEntry}
+use Rattle.rules.specs.OneBeam.{Beam, beamMarks, integratedMarks, integratedBeam, orStop, integratedFrom, integrated, flatShape, beamsOf}
+use Rattle.rules.specs.SweepFile.{Sweep, Swept, sweepOf, sweepAnswer, updateSweepEntry}
 use Rattle.rules.specs.VerticalBeam.{Vertical, inProfile, updateVerticalEntry}
 use Rattle.laws.specs.MarkLists.{marked-append}
 use Rattle.theorems.specs.DemandThree.Beams.{marksGiven, Taken, allMarks, given-a-count, grid-is}
-use Rattle.theorems.specs.FlatList.{is-true, flat-as-structs}
+use Rattle.theorems.specs.FlatList.{flat-as-structs}
 use Rattle.theorems.specs.VerticalBeam.{generalBeam}
 use Rattle.theorems.specs.VerticalBeam.Proof.{same-as-general}
 use Rattle.theorems.specs.StationsLists.Words.{Call, ray, flat-list, slice, file, upright, counted, outcome, beamsOfFile, handsOver}
@@ -180,8 +181,8 @@ module _ (f : Format) (h : Head) (g : Grid) (p : tried h g ≡ none) where
   unfolding updateSweepEntry
   file-does bytes s q t =
       let d = list-does (s .beams) t in
-      let i = integrated f (h .extents) (h .model) (h .frame) (s .beams) g in
-      rw (p, q) (record { count = (d .count .0, ap (λ (a : Answer ℕ). andThen (andThen a (λ (n : ℕ). given (record { station = s .station; count = n }))) (λ (x : Swept). given (x .count))) (d .count .1)); leaves = d .leaves })
+      let told : Answer ℕ → Answer ℕ = λ a. andThen (andThen a (λ (n : ℕ). given (record { station = s .station; count = n }))) (λ (x : Swept). given (x .count)) in
+      rw (p, q) (record { count = (d .count .0, ap told (d .count .1)); leaves = d .leaves })
 
   pub does : (c : Call) → Good f (h .extents) c → Does f h (handsOver f (h .extents) c) g (outcome f h c g)
   does (ray b) w = ray-does b (w .taken)

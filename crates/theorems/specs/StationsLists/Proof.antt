@@ -2,11 +2,10 @@
 -- what the calls leave. Assumes nothing.
 use mathlib.Core.Path.{_≡_, sym, ap, _∙_, subst}
 use mathlib.Core.List.{List, List·Memᴰ}
-use lib.Ieee.{Float, Format}
-use Prim.Native.Nat.{ℕ}
+use lib.Ieee.{Format}
 use Rattle.rules.specs.TheGridAndItsBounds.{Head, Grid}
 use Rattle.rules.specs.OneBeam.{Beam}
-use Rattle.theorems.specs.DemandThree.{frameOpened, headOpened, gridOpened, sweep, SameBeams, Opened, Sweep, Multiples, Ends}
+use Rattle.theorems.specs.DemandThree.{frameOpened, headOpened, gridOpened, sweep, SameBeams, Opened, Sweep, Ends}
 use Rattle.theorems.specs.DemandThree.Beams.{grid-is}
 use Rattle.theorems.specs.DemandThree.Proof.{demand-three}
 use Rattle.theorems.specs.FloorCost.{InUnits, FloorCost}
