@@ -31,14 +31,15 @@ use Rattle.theorems.specs.StationsLists.Proof.{ends, costs, same-map, sa
 
 -- of any format, and of any map whose sweep is properly opened
 module _ (f : Format) (h : Head) (g : Grid) (o : Opened h g) where
-  -- All calls of a night, in any other order: the second order is accepted where the first is, leaves the same stamps, and under the premises of demand 3's
-  -- last sentence the same odds.
+  -- Two lists exchanged, of whatever kinds: the second order is accepted where the first is, leaves the same stamps, and under the premises of demand 3's last
+  -- sentence the same odds.
+  pub the-order-of-the-stations-lists : (first second : Call) → NoneRefused f h g (first ∷ second ∷ []) → AsGood f h g (first ∷ second ∷ []) (second ∷ first ∷ [])
+  the-order-of-the-stations-lists first second =
+      same-calls f h g o (first ∷ second ∷ []) (second ∷ first ∷ []) (λ c m. perm-mem c (List·Permᴰ·swap refl refl) m) (λ c m. perm-mem c (List·Permᴰ·swap refl refl) m)
+
+  -- All calls of a night, in any other order.
   pub any-order-of-the-calls : (cs ds : List Call) → List·Permᴰ cs ds → NoneRefused f h g cs → AsGood f h g cs ds
   any-order-of-the-calls cs ds p = same-calls f h g o cs ds (λ c m. perm-mem c p m) (λ c m. perm-mem c (Permᴰ·symm p) m)
-
-  -- Two lists exchanged, of whatever kinds.
-  pub the-order-of-the-stations-lists : (first second : Call) → NoneRefused f h g (first ∷ second ∷ []) → AsGood f h g (first ∷ second ∷ []) (second ∷ first ∷ [])
-  the-order-of-the-stations-lists first second = any-order-of-the-calls (first ∷ second ∷ []) (second ∷ first ∷ []) (List·Permᴰ·swap refl refl)
 
   -- A call sent again.
   pub a-call-sent-again : (c : Call) (cs : List Call) → List·Memᴰ c cs → NoneRefused f h g cs → AsGood f h g cs (c ∷ cs)

@@ -28,6 +28,7 @@ use Rattle.theorems.specs.LayerChart.Order.{eighths-more}
 use Rattle.theorems.specs.LayerChart.More.{above-joined, above-same, chart-more, none-first}
 use Rattle.theorems.specs.StationsLists.Words.{Call, handed, night, NoneRefused}
 use Rattle.theorems.specs.StationsLists.ChartWords.{LoneVotes, NoThicker}
+use Rattle.theorems.specs.StationsLists.OneCall.{not-refused, neither}
 use Rattle.theorems.specs.StationsLists.Calls.{came}
 use Rattle.theorems.specs.StationsLists.Proof.{ends, costs}
 
@@ -161,14 +162,6 @@ module _ (f : Format) (h : Head) (g : Grid) (o : Opened h g) (cs : List Call) (a
   numbers p n = elim (each p) [ inl t ↦ no-nan-above (getD odds p nan) (getD other p nan) t | inr e ↦ ap isNan (sym e) ∙ n ]
 
   -- ---- the charts
-  both-none : (x y : Option Refusal) → orElse x y ≡ none → (x ≡ none) × (y ≡ none)
-  both-none (some r) y e = let z : _≡_ {A = ℕ} 0 1 = cc in absurd (omega arith)
-  both-none none y e = (refl, e)
-
-  passes : (r : Option Refusal) (chart : List ℕ) (out : Outcome (Unit {0}) (List ℕ)) → unlessRefused r chart out .answer ≡ given tt → (r ≡ none) × (out .answer ≡ given tt)
-  passes (some r) chart out e = let z : _≡_ {A = ℕ} 0 1 = cc in absurd (omega arith)
-  passes none chart out e = (refl, e)
-
   abbrev chartOver : List Float → List ℕ
   chartOver xs = chartOf (layerOf (h .extents)) (lastExtent (h .extents)) (h .model .ceiling) (cutsIn (h .model)) xs (layerOf (h .extents))
 
@@ -177,9 +170,9 @@ module _ (f : Format) (h : Head) (g : Grid) (o : Opened h g) (cs : List Call) (a
   no-thicker chart e =
       let columns = layerOf (h .extents) in
       let layers = lastExtent (h .extents) in
-      let p = passes (headRefusal chartUses (headOpened h) (length odds) 0) chart _ e in
-      let q = passes (orElse (unlessHolds true (leb (5 * columns) (length chart)) (noRoom (5 * columns))) (firstNan columns layers odds columns 0)) chart _ (p .1) in
-      let r = both-none (unlessHolds true (leb (5 * columns) (length chart)) (noRoom (5 * columns))) (firstNan columns layers odds columns 0) (q .0) in
+      let p = not-refused (headRefusal chartUses (headOpened h) (length odds) 0) chart _ tt e in
+      let q = not-refused (orElse (unlessHolds true (leb (5 * columns) (length chart)) (noRoom (5 * columns))) (firstNan columns layers odds columns 0)) chart _ tt (p .1) in
+      let r = neither (unlessHolds true (leb (5 * columns) (length chart)) (noRoom (5 * columns))) (firstNan columns layers odds columns 0) (q .0) in
       let s = none-first odds other numbers columns layers columns 0 (r .1) in
       let t : headRefusal chartUses (headOpened h) (length other) 0 ≡ none =
       ap (λ (n : ℕ). headRefusal chartUses (headOpened h) n 0) (v .one-per-cell ∙ sym as-many) ∙ p .0 in

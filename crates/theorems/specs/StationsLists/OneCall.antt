@@ -45,11 +45,11 @@ pub record Good (f : Format) (es : List ℕ) (c : Call) : Type 0 where
 refused-given : {A : Type 0} (r : Refusal) (a : A) → refused r ≡ given a → ⊥
 refused-given r a e = let z : _≡_ {A = ℕ} 0 1 = cc in omega arith
 
-not-refused : {A L : Type 0} (r : Option Refusal) (lent : L) (out : Outcome A L) (a : A) → unlessRefused r lent out .answer ≡ given a → (r ≡ none) × (out .answer ≡ given a)
+pub not-refused : {A L : Type 0} (r : Option Refusal) (lent : L) (out : Outcome A L) (a : A) → unlessRefused r lent out .answer ≡ given a → (r ≡ none) × (out .answer ≡ given a)
 not-refused (some r) lent out a e = absurd (refused-given r a e)
 not-refused none lent out a e = (refl, e)
 
-neither : (a b : Option Refusal) → orElse a b ≡ none → (a ≡ none) × (b ≡ none)
+pub neither : (a b : Option Refusal) → orElse a b ≡ none → (a ≡ none) × (b ≡ none)
 neither (some r) b e = let z : _≡_ {A = ℕ} 0 1 = cc in absurd (omega arith)
 neither none b e = (refl, e)
 
