@@ -20,7 +20,7 @@ use lib.IntN.{pos}
 use lib.Dec.{T, eqb}
 use lib.ListN.{length, getD}
 use lib.Ieee.{Float, nan, inf, fin, Format, up, down, binary32, binary64, sub, neg, lt, le, fits}
-use Rattle.rules.specs.RefusalNumbers.{given}
+use Rattle.rules.specs.RefusalNumbers.{Answer, given}
 use Rattle.rules.specs.TheGridAndItsBounds.{Pair, Model, Head, Grid, cells, extentsInBounds, allPairs, bounded, floor, onePerCell}
 use Rattle.rules.specs.MarksAndFrames.{Steps, Mark, stepsAt, stampOf, frameOf, freed, occupiedStep, occupy, cellAt, openedFrame, openedStamps}
 use Rattle.rules.specs.OneBeam.{Beam, Integrated, beamMarks, integrated}
@@ -40,26 +40,26 @@ gridOpened h g = record { odds = g .odds; stamps = openedStamps (h .frame) (g .s
 abbrev pub sweep : Format → Head → Grid → List Beam → Integrated
 sweep f h g bs = integrated f (h .extents) (h .model) (frameOpened h) bs (gridOpened h g)
 
--- ---- cells and beams
--- a beam of the list makes this mark
-pub record Makes (f : Format) (es : List ℕ) (bs : List Beam) (x : Mark) : Type 0 where
-  pub beam : Beam
-  pub among : List·Memᴰ beam bs
+-- ---- cells, and what is handed to a sweep
+-- something of the list makes this mark; a beam makes the marks that `beamMarks` gives, and what else a sweep may be handed has its own
+pub record Makes {A : Type 0} (marksOf : A → Answer (List Mark)) (bs : List A) (x : Mark) : Type 0 where
+  pub giver : A
+  pub among : List·Memᴰ giver bs
   pub marks : List Mark
-  pub its-marks : beamMarks f es beam ≡ given marks
+  pub its-marks : marksOf giver ≡ given marks
   pub one-of-them : List·Memᴰ x marks
 
--- a beam of the list hit the cell at this place in the lists, or touched it at all
-abbrev pub Hit : Format → List ℕ → List Beam → ℕ → Type 0
-Hit f es bs i = Makes f es bs (record { place = i; occupied = true })
+-- something of the list hit the cell at this place in the lists, or touched it at all
+abbrev pub Hit : {A : Type 0} → (A → Answer (List Mark)) → List A → ℕ → Type 0
+Hit marksOf bs i = Makes marksOf bs (record { place = i; occupied = true })
 
-abbrev pub Touched : Format → List ℕ → List Beam → ℕ → Type 0
-Touched f es bs i = (occupied : Bool) × Makes f es bs (record { place = i; occupied = occupied })
+abbrev pub Touched : {A : Type 0} → (A → Answer (List Mark)) → List A → ℕ → Type 0
+Touched marksOf bs i = (occupied : Bool) × Makes marksOf bs (record { place = i; occupied = occupied })
 
--- two lists with the same beams, in any order and with any repeats
-pub record SameBeams (bs cs : List Beam) : Type 0 where
-  pub there : (b : Beam) → List·Memᴰ b bs → List·Memᴰ b cs
-  pub back : (b : Beam) → List·Memᴰ b cs → List·Memᴰ b bs
+-- two lists with the same beams, or of the same of whatever was handed over, in any order and with any repeats
+pub record Same {A : Type 0} (bs cs : List A) : Type 0 where
+  pub there : (b : A) → List·Memᴰ b bs → List·Memᴰ b cs
+  pub back : (b : A) → List·Memᴰ b cs → List·Memᴰ b bs
 
 -- ---- the premises
 unfoldable pub oddsWithin : Model → Float → Bool
@@ -133,20 +133,20 @@ cloudAlone f s o = occupy f s o (s .occupied)
 abbrev pub cloudAfterClear : Format → Steps → ℕ → Float → Float
 cloudAfterClear f s k o = occupy f s (freed f s o) (occupiedStep f s k (record { odds = freed f s o; stamp = stampOf k false }))
 
--- how each cell stands on the grid that is left after these beams
-pub record Ends (f : Format) (h : Head) (g : Grid) (bs : List Beam) (after : Grid) : Type 0 where
+-- how each cell stands on the grid that is left after these beams, or whatever was handed over
+pub record Ends {A : Type 0} (f : Format) (h : Head) (g : Grid) (marksOf : A → Answer (List Mark)) (bs : List A) (after : Grid) : Type 0 where
   -- A cell that a beam hit ends stamped cloud.
-  pub hit-stamp : (i : ℕ) → i < cells (h .extents) → Hit f (h .extents) bs i → cellAt after i .stamp ≡ stampOf (frameOpened h) true
+  pub hit-stamp : (i : ℕ) → i < cells (h .extents) → Hit marksOf bs i → cellAt after i .stamp ≡ stampOf (frameOpened h) true
   -- A cell that was touched, and that no beam hit, ends stamped clear.
-  pub clear-stamp : (i : ℕ) → i < cells (h .extents) → Touched f (h .extents) bs i → ¬ Hit f (h .extents) bs i
+  pub clear-stamp : (i : ℕ) → i < cells (h .extents) → Touched marksOf bs i → ¬ Hit marksOf bs i
       → cellAt after i .stamp ≡ stampOf (frameOpened h) false
   -- Any other cell keeps its odds, and its stamp as the sweep opened.
-  pub untouched : (i : ℕ) → i < cells (h .extents) → ¬ Touched f (h .extents) bs i → cellAt after i ≡ cellAt (gridOpened h g) i
+  pub untouched : (i : ℕ) → i < cells (h .extents) → ¬ Touched marksOf bs i → cellAt after i ≡ cellAt (gridOpened h g) i
   -- A clear cell took one clear step.
-  pub clear-odds : (i : ℕ) → i < cells (h .extents) → Touched f (h .extents) bs i → ¬ Hit f (h .extents) bs i
+  pub clear-odds : (i : ℕ) → i < cells (h .extents) → Touched marksOf bs i → ¬ Hit marksOf bs i
       → cellAt after i .odds ≡ freed f (stepsAt (h .model) i) (getD (g .odds) i nan)
   -- A cloud cell took the cloud step, with at most one clear step before it, taken back by the stated rule.
-  pub cloud-odds : (i : ℕ) → i < cells (h .extents) → Hit f (h .extents) bs i
+  pub cloud-odds : (i : ℕ) → i < cells (h .extents) → Hit marksOf bs i
       → (cellAt after i .odds ≡ cloudAlone f (stepsAt (h .model) i) (getD (g .odds) i nan))
       ⊎ (cellAt after i .odds ≡ cloudAfterClear f (stepsAt (h .model) i) (frameOpened h) (getD (g .odds) i nan))
 
@@ -154,13 +154,13 @@ pub record Settled (f : Format) (h : Head) (g : Grid) (bs : List Beam) : Type 0 
   -- The list is not refused.
   pub given-a-count : (n : ℕ) × (sweep f h g bs .answer ≡ given n)
   -- Each cell ends as it should.
-  pub ends : Ends f h g bs (sweep f h g bs .grid)
+  pub ends : Ends f h g (beamMarks f (h .extents)) bs (sweep f h g bs .grid)
   -- The same beams in any order and with any repeats leave the same stamps; so do the beams in another order, and with one repeated.
-  pub stamps-same : (cs : List Beam) → SameBeams bs cs → sweep f h g bs .grid .stamps ≡ sweep f h g cs .grid .stamps
+  pub stamps-same : (cs : List Beam) → Same bs cs → sweep f h g bs .grid .stamps ≡ sweep f h g cs .grid .stamps
   pub stamps-permuted : (cs : List Beam) → List·Permᴰ bs cs → sweep f h g bs .grid .stamps ≡ sweep f h g cs .grid .stamps
   pub stamps-repeated : (b : Beam) → List·Memᴰ b bs → sweep f h g bs .grid .stamps ≡ sweep f h g (b ∷ bs) .grid .stamps
   -- If all odds, steps and bounds are multiples of the unit, and each cell is on the floor or above it by more than the clear step's size,
   -- the odds too are the same, as data: bit for bit, with the sign of zero.
-  pub odds-same : Multiples f h g → (cs : List Beam) → SameBeams bs cs → sweep f h g bs .grid .odds ≡ sweep f h g cs .grid .odds
+  pub odds-same : Multiples f h g → (cs : List Beam) → Same bs cs → sweep f h g bs .grid .odds ≡ sweep f h g cs .grid .odds
   pub odds-permuted : Multiples f h g → (cs : List Beam) → List·Permᴰ bs cs → sweep f h g bs .grid .odds ≡ sweep f h g cs .grid .odds
   pub odds-repeated : Multiples f h g → (b : Beam) → List·Memᴰ b bs → sweep f h g bs .grid .odds ≡ sweep f h g (b ∷ bs) .grid .odds

@@ -7,9 +7,9 @@ use lib.Dec.{T}
 use lib.ListN.{getD}
 use lib.Ieee.{Float, nan, Format, add, le}
 use mathlib.Core.List.{List}
+use Rattle.rules.specs.RefusalNumbers.{Answer}
 use Rattle.rules.specs.TheGridAndItsBounds.{Head, Grid, cells}
-use Rattle.rules.specs.MarksAndFrames.{stepsAt, cellAt}
-use Rattle.rules.specs.OneBeam.{Beam}
+use Rattle.rules.specs.MarksAndFrames.{Mark, stepsAt, cellAt}
 use Rattle.theorems.specs.DemandThree.{Hit, ofUnits, modelOfUnits, cloudAlone}
 
 -- ---- the premises, beside those of a sweep (`DemandThree.Sweep`): demand 3's of its last sentence, but for the floor's
@@ -24,10 +24,10 @@ pub record InUnits (f : Format) (h : Head) (g : Grid) : Type 0 where
 abbrev pub loneVote : Format → Head → Grid → ℕ → Float
 loneVote f h g i = cloudAlone f (stepsAt (h .model) i) (getD (g .odds) i nan)
 
--- of the grid that is left after these beams
-pub record FloorCost (f : Format) (h : Head) (g : Grid) (bs : List Beam) (after : Grid) : Type 0 where
+-- of the grid that is left after these beams, or whatever was handed over
+pub record FloorCost {A : Type 0} (f : Format) (h : Head) (g : Grid) (marksOf : A → Answer (List Mark)) (bs : List A) (after : Grid) : Type 0 where
   -- A cell that a beam hit ends no higher than a lone cloud vote would leave it,
-  pub no-higher : (i : ℕ) → i < cells (h .extents) → Hit f (h .extents) bs i → T (le (cellAt after i .odds) (loneVote f h g i))
+  pub no-higher : (i : ℕ) → i < cells (h .extents) → Hit marksOf bs i → T (le (cellAt after i .odds) (loneVote f h g i))
   -- and no lower than that and one clear step, which is below zero. The sum is exact: both are multiples of the unit, far below the format's largest whole number of units.
-  pub one-clear-step : (i : ℕ) → i < cells (h .extents) → Hit f (h .extents) bs i
+  pub one-clear-step : (i : ℕ) → i < cells (h .extents) → Hit marksOf bs i
       → T (le (add f (loneVote f h g i) (stepsAt (h .model) i .free)) (cellAt after i .odds))

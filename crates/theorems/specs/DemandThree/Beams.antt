@@ -24,13 +24,13 @@ abbrev pub marksGiven : Answer (List Mark) → List Mark
 marksGiven (given xs) = xs
 marksGiven (refused r) = []
 
-abbrev pub allMarks : Format → List ℕ → List Beam → List Mark
-allMarks f es [] = []
-allMarks f es (b ∷ bs) = marksGiven (beamMarks f es b) ++ allMarks f es bs
+abbrev pub allMarks : {A : Type 0} → (A → Answer (List Mark)) → List A → List Mark
+allMarks marksOf [] = []
+allMarks marksOf (b ∷ bs) = marksGiven (marksOf b) ++ allMarks marksOf bs
 
 -- none of the beams is refused
-abbrev pub Taken : Format → List ℕ → List Beam → Type 0
-Taken f es bs = (b : Beam) → List·Memᴰ b bs → (xs : List Mark) × (beamMarks f es b ≡ given xs)
+abbrev pub Taken : {A : Type 0} → (A → Answer (List Mark)) → List A → Type 0
+Taken {A} marksOf bs = (b : A) → List·Memᴰ b bs → (xs : List Mark) × (marksOf b ≡ given xs)
 
 -- ---- the grid after a list of beams is the grid after their marks
 module _ (f : Format) (es : List ℕ) (m : Model) (k : ℕ) where
@@ -41,8 +41,8 @@ module _ (f : Format) (es : List ℕ) (m : Model) (k : ℕ) where
       ap (λ (a : Answer (List Mark)). let r : Integrated = integratedMarks f m k g a in
       orStop place count (r .grid) (r .answer) (λ n. integratedFrom f es m k (suc place) n bs (r .grid))) e
 
-  grid-from : (place count : ℕ) (bs : List Beam) (g : Grid) → Taken f es bs
-      → ((n : ℕ) × (integratedFrom f es m k place count bs g .answer ≡ given n)) × (integratedFrom f es m k place count bs g .grid ≡ marked f m k (allMarks f es bs) g)
+  grid-from : (place count : ℕ) (bs : List Beam) (g : Grid) → Taken (beamMarks f es) bs
+      → ((n : ℕ) × (integratedFrom f es m k place count bs g .answer ≡ given n)) × (integratedFrom f es m k place count bs g .grid ≡ marked f m k (allMarks (beamMarks f es) bs) g)
   unfolding integratedFrom marked
   grid-from place count [] g t = ((count, refl), refl)
   grid-from place count (b ∷ bs) g t =
@@ -51,52 +51,52 @@ module _ (f : Format) (es : List ℕ) (m : Model) (k : ℕ) where
       let e = one-more place count b bs g xs (a .1) in
       let r = grid-from (suc place) (count + changes f m k xs g) bs (marked f m k xs g) (λ c d. t c (List·Memᴰ·tail d)) in (
         (r .0 .0, ap (λ (i : Integrated). i .answer) e ∙ r .0 .1),
-        ap (λ (i : Integrated). i .grid) e ∙ r .1 ∙ sym (marked-append f m k xs (allMarks f es bs) g)
-            ∙ ap (λ (c : Answer (List Mark)). marked f m k (marksGiven c ++ allMarks f es bs) g) (sym (a .1)),
+        ap (λ (i : Integrated). i .grid) e ∙ r .1 ∙ sym (marked-append f m k xs (allMarks (beamMarks f es) bs) g)
+            ∙ ap (λ (c : Answer (List Mark)). marked f m k (marksGiven c ++ allMarks (beamMarks f es) bs) g) (sym (a .1)),
       )
 
-  pub given-a-count : (bs : List Beam) (g : Grid) → Taken f es bs → (n : ℕ) × (integrated f es m k bs g .answer ≡ given n)
+  pub given-a-count : (bs : List Beam) (g : Grid) → Taken (beamMarks f es) bs → (n : ℕ) × (integrated f es m k bs g .answer ≡ given n)
   unfolding integrated
   given-a-count bs g t = grid-from 0 0 bs g t .0
 
-  pub grid-is : (bs : List Beam) (g : Grid) → Taken f es bs → integrated f es m k bs g .grid ≡ marked f m k (allMarks f es bs) g
+  pub grid-is : (bs : List Beam) (g : Grid) → Taken (beamMarks f es) bs → integrated f es m k bs g .grid ≡ marked f m k (allMarks (beamMarks f es) bs) g
   unfolding integrated
   grid-is bs g t = grid-from 0 0 bs g t .1
 
 -- ---- a mark of the list is a mark of a beam
-module _ (f : Format) (es : List ℕ) where
-  makes-mem : (bs : List Beam) (x : Mark) → Makes f es bs x → List·Memᴰ x (allMarks f es bs)
+module _ {A : Type 0} (marksOf : A → Answer (List Mark)) where
+  makes-mem : (bs : List A) (x : Mark) → Makes marksOf bs x → List·Memᴰ x (allMarks marksOf bs)
   makes-mem bs x w = find bs (w .among)
     where
-      find : (bs : List Beam) → List·Memᴰ (w .beam) bs → List·Memᴰ x (allMarks f es bs)
+      find : (bs : List A) → List·Memᴰ (w .giver) bs → List·Memᴰ x (allMarks marksOf bs)
       find [] d = absurd (List·Memᴰ·not-nil d)
       find (c ∷ bs) d = go (List·Memᴰ·cases-cons d) (find bs)
         where
-          mine : List·Memᴰ x (marksGiven (beamMarks f es (w .beam)))
+          mine : List·Memᴰ x (marksGiven (marksOf (w .giver)))
           mine = subst (λ (a : Answer (List Mark)). List·Memᴰ x (marksGiven a)) (sym (w .its-marks)) (w .one-of-them)
 
-          go : (w .beam ≡ c) ⊎ List·Memᴰ (w .beam) bs → (List·Memᴰ (w .beam) bs → List·Memᴰ x (allMarks f es bs)) → List·Memᴰ x (allMarks f es (c ∷ bs))
-          go (inl p) ih = Memᴰ·append-left (allMarks f es bs) (subst (λ (z : Beam). List·Memᴰ x (marksGiven (beamMarks f es z))) p mine)
-          go (inr p) ih = Memᴰ·append-right (marksGiven (beamMarks f es c)) (ih p)
+          go : (w .giver ≡ c) ⊎ List·Memᴰ (w .giver) bs → (List·Memᴰ (w .giver) bs → List·Memᴰ x (allMarks marksOf bs)) → List·Memᴰ x (allMarks marksOf (c ∷ bs))
+          go (inl p) ih = Memᴰ·append-left (allMarks marksOf bs) (subst (λ (z : A). List·Memᴰ x (marksGiven (marksOf z))) p mine)
+          go (inr p) ih = Memᴰ·append-right (marksGiven (marksOf c)) (ih p)
 
-  mem-makes : (bs : List Beam) (x : Mark) → List·Memᴰ x (allMarks f es bs) → Makes f es bs x
+  mem-makes : (bs : List A) (x : Mark) → List·Memᴰ x (allMarks marksOf bs) → Makes marksOf bs x
   mem-makes [] x d = absurd (List·Memᴰ·not-nil d)
-  mem-makes (b ∷ bs) x d = go (beamMarks f es b) refl (List·Memᴰ·append-cases (marksGiven (beamMarks f es b)) d) (mem-makes bs x)
+  mem-makes (b ∷ bs) x d = go (marksOf b) refl (List·Memᴰ·append-cases (marksGiven (marksOf b)) d) (mem-makes bs x)
     where
-      later : Makes f es bs x → Makes f es (b ∷ bs) x
-      later w = record { beam = w .beam; among = List·Memᴰ·tail (w .among); marks = w .marks; its-marks = w .its-marks; one-of-them = w .one-of-them }
+      later : Makes marksOf bs x → Makes marksOf (b ∷ bs) x
+      later w = record { giver = w .giver; among = List·Memᴰ·tail (w .among); marks = w .marks; its-marks = w .its-marks; one-of-them = w .one-of-them }
 
-      here : (a : Answer (List Mark)) → beamMarks f es b ≡ a → List·Memᴰ x (marksGiven a) → Makes f es (b ∷ bs) x
-      here (given xs) e d = record { beam = b; among = List·Memᴰ·head refl; marks = xs; its-marks = e; one-of-them = d }
+      here : (a : Answer (List Mark)) → marksOf b ≡ a → List·Memᴰ x (marksGiven a) → Makes marksOf (b ∷ bs) x
+      here (given xs) e d = record { giver = b; among = List·Memᴰ·head refl; marks = xs; its-marks = e; one-of-them = d }
       here (refused r) e d = absurd (List·Memᴰ·not-nil d)
 
-      go : (a : Answer (List Mark)) → beamMarks f es b ≡ a → List·Memᴰ x (marksGiven (beamMarks f es b)) ⊎ List·Memᴰ x (allMarks f es bs)
-          → (List·Memᴰ x (allMarks f es bs) → Makes f es bs x) → Makes f es (b ∷ bs) x
-      go a e (inl d) ih = here (beamMarks f es b) refl d
+      go : (a : Answer (List Mark)) → marksOf b ≡ a → List·Memᴰ x (marksGiven (marksOf b)) ⊎ List·Memᴰ x (allMarks marksOf bs)
+          → (List·Memᴰ x (allMarks marksOf bs) → Makes marksOf bs x) → Makes marksOf (b ∷ bs) x
+      go a e (inl d) ih = here (marksOf b) refl d
       go a e (inr d) ih = later (ih d)
 
-  pub makes-same : (bs cs : List Beam) (x : Mark) → ((b : Beam) → List·Memᴰ b bs → List·Memᴰ b cs) → Makes f es bs x → Makes f es cs x
-  makes-same bs cs x t w = record { beam = w .beam; among = t (w .beam) (w .among); marks = w .marks; its-marks = w .its-marks; one-of-them = w .one-of-them }
+  pub makes-same : (bs cs : List A) (x : Mark) → ((b : A) → List·Memᴰ b bs → List·Memᴰ b cs) → Makes marksOf bs x → Makes marksOf cs x
+  makes-same bs cs x t w = record { giver = w .giver; among = t (w .giver) (w .among); marks = w .marks; its-marks = w .its-marks; one-of-them = w .one-of-them }
 
 -- ---- whether a cell has a mark of a kind, as a test and as a mark of the list
 abbrev on : ℕ → Bool → Mark
@@ -150,20 +150,20 @@ mem-mark : (i : ℕ) (b : Bool) (xs : List Mark) → List·Memᴰ (on i b) xs �
 mem-mark i b xs d = mem-test i b anyMark (λ bs. tt) (λ c bs t. tt) xs d
 
 -- ---- hit and touched, as tests
-module _ (f : Format) (es : List ℕ) (bs : List Beam) (i : ℕ) where
+module _ {A : Type 0} (marksOf : A → Answer (List Mark)) (bs : List A) (i : ℕ) where
   abbrev kinds : List Bool
-  kinds = kindsOn i (allMarks f es bs)
+  kinds = kindsOn i (allMarks marksOf bs)
 
-  pub hit-test : Hit f es bs i → T (anyCloud kinds)
-  hit-test w = mem-cloud i (allMarks f es bs) (makes-mem f es bs (record { place = i; occupied = true }) w)
+  pub hit-test : Hit marksOf bs i → T (anyCloud kinds)
+  hit-test w = mem-cloud i (allMarks marksOf bs) (makes-mem marksOf bs (record { place = i; occupied = true }) w)
 
-  pub test-hit : T (anyCloud kinds) → Hit f es bs i
-  test-hit t = mem-makes f es bs (record { place = i; occupied = true }) (cloud-mem i (allMarks f es bs) t)
+  pub test-hit : T (anyCloud kinds) → Hit marksOf bs i
+  test-hit t = mem-makes marksOf bs (record { place = i; occupied = true }) (cloud-mem i (allMarks marksOf bs) t)
 
-  pub touched-test : Touched f es bs i → T (anyMark kinds)
-  touched-test w = mem-mark i (w .0) (allMarks f es bs) (makes-mem f es bs (record { place = i; occupied = w .0 }) (w .1))
+  pub touched-test : Touched marksOf bs i → T (anyMark kinds)
+  touched-test w = mem-mark i (w .0) (allMarks marksOf bs) (makes-mem marksOf bs (record { place = i; occupied = w .0 }) (w .1))
 
-  pub test-touched : T (anyMark kinds) → Touched f es bs i
+  pub test-touched : T (anyMark kinds) → Touched marksOf bs i
   test-touched t =
-      let r = mark-mem i (allMarks f es bs) t in
-      (r .0, mem-makes f es bs (record { place = i; occupied = r .0 }) (r .1))
+      let r = mark-mem i (allMarks marksOf bs) t in
+      (r .0, mem-makes marksOf bs (record { place = i; occupied = r .0 }) (r .1))

@@ -10,19 +10,20 @@ use lib.Dec.{leb, eqb→eq}
 use lib.ListN.{length, getD, replicate, length-replicate}
 use lib.Seq.{ext-getD}
 use lib.Ieee.{Float, nan, Format}
+use Rattle.rules.specs.RefusalNumbers.{Answer}
 use Rattle.rules.specs.TheGridAndItsBounds.{Head, Grid, cells, onePerCell}
-use Rattle.rules.specs.MarksAndFrames.{Cell, Steps, Mark, stepsAt, stampOf, freed, occupy, cellAt, openedStamps, highestFrame}
-use Rattle.rules.specs.OneBeam.{Beam}
+use Rattle.rules.specs.MarksAndFrames.{Cell, Steps, Mark, stepsAt, stampOf, freed, occupy, cellAt, marked, openedStamps, highestFrame}
+use Rattle.rules.specs.OneBeam.{Beam, beamMarks}
 use Rattle.laws.specs.Floats.Tests.{bool-ext}
 use Rattle.theorems.specs.DemandThree.TakeBack.{alone}
 use Rattle.theorems.specs.DemandThree.Orders.{runs, anyCloud, anyMark, kindsOn, Sized, cleared, clouded, restored, marked-sized, marked-cell, back-step, no-marks}
 use Rattle.theorems.specs.DemandThree.Orders.{clear-marks, cloud-marks, stamp-is, odds-are}
 use Rattle.theorems.specs.DemandThree.Beams.{Taken, allMarks, given-a-count, grid-is, makes-same, hit-test, test-hit, touched-test, test-touched}
 use Rattle.theorems.specs.DemandThree.OneCell.{exact}
-use Rattle.theorems.specs.DemandThree.{frameOpened, gridOpened, sweep, Hit, Touched, SameBeams, Sweep, Multiples, cloudAlone, cloudAfterClear, Ends, Settled}
+use Rattle.theorems.specs.DemandThree.{frameOpened, gridOpened, sweep, Hit, Touched, Same, Opened, Sweep, Multiples, cloudAlone, cloudAfterClear, Ends, Settled}
 
 -- ---- permutations and repeats are the same beams
-pub perm-mem : {A : Type 0} {bs cs : List A} (b : A) → List·Permᴰ bs cs → List·Memᴰ b bs → List·Memᴰ b cs
+perm-mem : {A : Type 0} {bs cs : List A} (b : A) → List·Permᴰ bs cs → List·Memᴰ b bs → List·Memᴰ b cs
 perm-mem b List·Permᴰ·nil d = d
 perm-mem b (List·Permᴰ·cons e p) d = elim (List·Memᴰ·cases-cons d) [ inl w ↦ List·Memᴰ·head (w ∙ e) | inr w ↦ List·Memᴰ·tail (perm-mem b p w) ]
 perm-mem b (List·Permᴰ·swap e g) d =
@@ -33,12 +34,12 @@ perm-mem b (List·Permᴰ·swap e g) d =
     ]
 perm-mem b (List·Permᴰ·trans p q) d = perm-mem b q (perm-mem b p d)
 
-permuted : (bs cs : List Beam) → List·Permᴰ bs cs → SameBeams bs cs
+pub permuted : {A : Type 0} (bs cs : List A) → List·Permᴰ bs cs → Same bs cs
 permuted bs cs p = record { there = λ b d. perm-mem b p d; back = λ b d. perm-mem b (Permᴰ·symm p) d }
 
-repeated : (b : Beam) (bs : List Beam) → List·Memᴰ b bs → SameBeams bs (b ∷ bs)
-repeated b bs m =
-    record { there = λ c d. List·Memᴰ·tail d; back = λ c d. elim (List·Memᴰ·cases-cons d) [ inl w ↦ subst (λ (x : Beam). List·Memᴰ x bs) (sym w) m | inr w ↦ w ] }
+pub repeated : {A : Type 0} (b : A) (bs : List A) → List·Memᴰ b bs → Same bs (b ∷ bs)
+repeated {A} b bs m =
+    record { there = λ c d. List·Memᴰ·tail d; back = λ c d. elim (List·Memᴰ·cases-cons d) [ inl w ↦ subst (λ (x : A). List·Memᴰ x bs) (sym w) m | inr w ↦ w ] }
 
 pub opened-length : (k : ℕ) (stamps : List ℕ) → length (openedStamps k stamps) ≡ length stamps
 unfolding openedStamps
@@ -48,139 +49,154 @@ opened-length k stamps = go (leb highestFrame k)
     go true = length-replicate (length stamps) 0
     go false = refl
 
-module _ (f : Format) (h : Head) (g : Grid) (bs : List Beam) (p : Sweep f h g bs) where
-  abbrev kinds : ℕ → List Beam → List Bool
-  kinds i cs = kindsOn i (allMarks f (h .extents) cs)
+-- ---- the grid after the marks of whatever was handed over, on the opened grid
+module _ {A : Type 0} (f : Format) (h : Head) (g : Grid) (p : Opened h g) (marksOf : A → Answer (List Mark)) where
+  abbrev pub marksLeave : List A → Grid
+  marksLeave cs = marked f (h .model) (frameOpened h) (allMarks marksOf cs) (gridOpened h g)
+
+  abbrev kinds : ℕ → List A → List Bool
+  kinds i cs = kindsOn i (allMarks marksOf cs)
 
   sized : Sized (cells (h .extents)) (gridOpened h g)
   unfolding onePerCell
   sized =
       record {
-        odds = eqb→eq (length (g .odds)) (cells (h .extents)) (p .opened .odds-per-cell);
-        stamps = opened-length (h .frame) (g .stamps) ∙ eqb→eq (length (g .stamps)) (cells (h .extents)) (p .opened .stamps-per-cell);
+        odds = eqb→eq (length (g .odds)) (cells (h .extents)) (p .odds-per-cell);
+        stamps = opened-length (h .frame) (g .stamps) ∙ eqb→eq (length (g .stamps)) (cells (h .extents)) (p .stamps-per-cell);
       }
 
-  -- each cell after a list of beams
-  cell-after : (cs : List Beam) → Taken f (h .extents) cs → (i : ℕ) → i < cells (h .extents)
-      → cellAt (sweep f h g cs .grid) i ≡ runs f (stepsAt (h .model) i) (frameOpened h) (kinds i cs) (cellAt (gridOpened h g) i)
-  cell-after cs t i l =
-      ap (λ (x : Grid). cellAt x i) (grid-is f (h .extents) (h .model) (frameOpened h) cs (gridOpened h g) t)
-      ∙ marked-cell f (h .model) (frameOpened h) (allMarks f (h .extents) cs) (gridOpened h g) (cells (h .extents)) i sized l
+  -- each cell after a list
+  cell-after : (cs : List A) (i : ℕ) → i < cells (h .extents)
+      → cellAt (marksLeave cs) i ≡ runs f (stepsAt (h .model) i) (frameOpened h) (kinds i cs) (cellAt (gridOpened h g) i)
+  cell-after cs i l = marked-cell f (h .model) (frameOpened h) (allMarks marksOf cs) (gridOpened h g) (cells (h .extents)) i sized l
 
-  after-sized : (cs : List Beam) → Taken f (h .extents) cs → Sized (cells (h .extents)) (sweep f h g cs .grid)
-  after-sized cs t =
-      subst (λ (x : Grid). Sized (cells (h .extents)) x) (sym (grid-is f (h .extents) (h .model) (frameOpened h) cs (gridOpened h g) t))
-      (marked-sized f (h .model) (frameOpened h) (allMarks f (h .extents) cs) (gridOpened h g) (cells (h .extents)) sized)
+  after-sized : (cs : List A) → Sized (cells (h .extents)) (marksLeave cs)
+  after-sized cs = marked-sized f (h .model) (frameOpened h) (allMarks marksOf cs) (gridOpened h g) (cells (h .extents)) sized
 
-  -- how the cells end
-  clear-cell : (i : ℕ) → i < cells (h .extents) → Touched f (h .extents) bs i → ¬ Hit f (h .extents) bs i
-      → cellAt (sweep f h g bs .grid) i ≡ cleared f (stepsAt (h .model) i) (frameOpened h) (getD (g .odds) i nan)
-  clear-cell i l w z =
-      cell-after bs (p .taken) i l
-      ∙ clear-marks f (stepsAt (h .model) i) (frameOpened h) (cellAt (gridOpened h g) i) (p .opened .unstamped i l) (kinds i bs)
-      (touched-test f (h .extents) bs i w) (λ t. z (test-hit f (h .extents) bs i t))
+  module _ (bs : List A) where
+    -- how the cells end
+    clear-cell : (i : ℕ) → i < cells (h .extents) → Touched marksOf bs i → ¬ Hit marksOf bs i
+        → cellAt (marksLeave bs) i ≡ cleared f (stepsAt (h .model) i) (frameOpened h) (getD (g .odds) i nan)
+    clear-cell i l w z =
+        cell-after bs i l
+        ∙ clear-marks f (stepsAt (h .model) i) (frameOpened h) (cellAt (gridOpened h g) i) (p .unstamped i l) (kinds i bs)
+        (touched-test marksOf bs i w) (λ t. z (test-hit marksOf bs i t))
 
-  cloud-cell : (i : ℕ) → i < cells (h .extents) → Hit f (h .extents) bs i
-      → (cellAt (sweep f h g bs .grid) i ≡ clouded f (stepsAt (h .model) i) (frameOpened h) (getD (g .odds) i nan))
-      ⊎ (cellAt (sweep f h g bs .grid) i ≡ restored f (stepsAt (h .model) i) (frameOpened h) (freed f (stepsAt (h .model) i) (getD (g .odds) i nan)))
-  cloud-cell i l w =
-      go (cloud-marks f (stepsAt (h .model) i) (frameOpened h) (cellAt (gridOpened h g) i) (p .opened .unstamped i l) (kinds i bs) (hit-test f (h .extents) bs i w))
-    where
-      s : Steps
-      s = stepsAt (h .model) i
+    cloud-cell : (i : ℕ) → i < cells (h .extents) → Hit marksOf bs i
+        → (cellAt (marksLeave bs) i ≡ clouded f (stepsAt (h .model) i) (frameOpened h) (getD (g .odds) i nan))
+        ⊎ (cellAt (marksLeave bs) i ≡ restored f (stepsAt (h .model) i) (frameOpened h) (freed f (stepsAt (h .model) i) (getD (g .odds) i nan)))
+    cloud-cell i l w =
+        go (cloud-marks f (stepsAt (h .model) i) (frameOpened h) (cellAt (gridOpened h g) i) (p .unstamped i l) (kinds i bs) (hit-test marksOf bs i w))
+      where
+        s : Steps
+        s = stepsAt (h .model) i
 
-      o : Float
-      o = getD (g .odds) i nan
+        o : Float
+        o = getD (g .odds) i nan
 
-      c : Cell
-      c = runs f s (frameOpened h) (kinds i bs) (cellAt (gridOpened h g) i)
+        c : Cell
+        c = runs f s (frameOpened h) (kinds i bs) (cellAt (gridOpened h g) i)
 
-      go : (c ≡ clouded f s (frameOpened h) o) ⊎ (c ≡ restored f s (frameOpened h) (freed f s o))
-          → (cellAt (sweep f h g bs .grid) i ≡ clouded f s (frameOpened h) o) ⊎ (cellAt (sweep f h g bs .grid) i ≡ restored f s (frameOpened h) (freed f s o))
-      go (inl e) = inl (cell-after bs (p .taken) i l ∙ e)
-      go (inr e) = inr (cell-after bs (p .taken) i l ∙ e)
+        go : (c ≡ clouded f s (frameOpened h) o) ⊎ (c ≡ restored f s (frameOpened h) (freed f s o))
+            → (cellAt (marksLeave bs) i ≡ clouded f s (frameOpened h) o) ⊎ (cellAt (marksLeave bs) i ≡ restored f s (frameOpened h) (freed f s o))
+        go (inl e) = inl (cell-after bs i l ∙ e)
+        go (inr e) = inr (cell-after bs i l ∙ e)
 
-  cloud-stamp : (i : ℕ) → i < cells (h .extents) → Hit f (h .extents) bs i → cellAt (sweep f h g bs .grid) i .stamp ≡ stampOf (frameOpened h) true
-  cloud-stamp i l w = elim (cloud-cell i l w) [ inl e ↦ ap (λ (c : Cell). c .stamp) e | inr e ↦ ap (λ (c : Cell). c .stamp) e ]
+    cloud-stamp : (i : ℕ) → i < cells (h .extents) → Hit marksOf bs i → cellAt (marksLeave bs) i .stamp ≡ stampOf (frameOpened h) true
+    cloud-stamp i l w = elim (cloud-cell i l w) [ inl e ↦ ap (λ (c : Cell). c .stamp) e | inr e ↦ ap (λ (c : Cell). c .stamp) e ]
 
-  cloud-odds : (i : ℕ) → i < cells (h .extents) → Hit f (h .extents) bs i
-      → (cellAt (sweep f h g bs .grid) i .odds ≡ cloudAlone f (stepsAt (h .model) i) (getD (g .odds) i nan))
-      ⊎ (cellAt (sweep f h g bs .grid) i .odds ≡ cloudAfterClear f (stepsAt (h .model) i) (frameOpened h) (getD (g .odds) i nan))
-  cloud-odds i l w =
-      let s = stepsAt (h .model) i in
-      let o = freed f s (getD (g .odds) i nan) in
-      elim (cloud-cell i l w) [
-        | inl e ↦ inl (ap (λ (c : Cell). c .odds) e)
-        | inr e ↦ inr (ap (λ (c : Cell). c .odds) e
-            ∙ sym (ap (λ (d : Float). occupy f s o d) (back-step f s (frameOpened h) (record { odds = o; stamp = stampOf (frameOpened h) false }) refl)))
-      ]
-
-  ends : Ends f h g bs (sweep f h g bs .grid)
-  ends =
-      record {
-        hit-stamp = cloud-stamp;
-        clear-stamp = λ i l w z. ap (λ (c : Cell). c .stamp) (clear-cell i l w z);
-        untouched =
-            λ i l z. cell-after bs (p .taken) i l ∙ no-marks f (stepsAt (h .model) i) (frameOpened h) (cellAt (gridOpened h g) i) (p .opened .unstamped i l)
-            (kinds i bs) (λ t. z (test-touched f (h .extents) bs i t));
-        clear-odds = λ i l w z. ap (λ (c : Cell). c .odds) (clear-cell i l w z);
-        cloud-odds = cloud-odds;
-      }
-
-  -- ---- the same beams
-  module _ (cs : List Beam) (e : SameBeams bs cs) where
-    taken-too : Taken f (h .extents) cs
-    taken-too b d = p .taken b (e .back b d)
-
-    cloud-same : (i : ℕ) → anyCloud (kinds i bs) ≡ anyCloud (kinds i cs)
-    cloud-same i =
-        let x : Mark = record { place = i; occupied = true } in
-        bool-ext (anyCloud (kinds i bs)) (anyCloud (kinds i cs)) (λ t. hit-test f (h .extents) cs i (makes-same f (h .extents) bs cs x (e .there) (test-hit f (h .extents) bs i t)))
-        (λ t. hit-test f (h .extents) bs i (makes-same f (h .extents) cs bs x (e .back) (test-hit f (h .extents) cs i t)))
-
-    mark-same : (i : ℕ) → anyMark (kinds i bs) ≡ anyMark (kinds i cs)
-    mark-same i =
-        bool-ext (anyMark (kinds i bs)) (anyMark (kinds i cs))
-        (λ t. let w = test-touched f (h .extents) bs i t in
-        touched-test f (h .extents) cs i (w .0, makes-same f (h .extents) bs cs (record { place = i; occupied = w .0 }) (e .there) (w .1)))
-        (λ t. let w = test-touched f (h .extents) cs i t in
-        touched-test f (h .extents) bs i (w .0, makes-same f (h .extents) cs bs (record { place = i; occupied = w .0 }) (e .back) (w .1)))
-
-    stamps-same : sweep f h g bs .grid .stamps ≡ sweep f h g cs .grid .stamps
-    stamps-same =
-        let a = after-sized bs (p .taken) in
-        let b = after-sized cs taken-too in
-        ext-getD 0 (sweep f h g bs .grid .stamps) (sweep f h g cs .grid .stamps) (a .stamps ∙ sym (b .stamps))
-        (λ i q. let l : i < cells (h .extents) = omega (arith, a .stamps) in
+    cloud-odds : (i : ℕ) → i < cells (h .extents) → Hit marksOf bs i
+        → (cellAt (marksLeave bs) i .odds ≡ cloudAlone f (stepsAt (h .model) i) (getD (g .odds) i nan))
+        ⊎ (cellAt (marksLeave bs) i .odds ≡ cloudAfterClear f (stepsAt (h .model) i) (frameOpened h) (getD (g .odds) i nan))
+    cloud-odds i l w =
         let s = stepsAt (h .model) i in
-        let c = cellAt (gridOpened h g) i in
-        ap (λ (x : Cell). x .stamp) (cell-after bs (p .taken) i l) ∙ stamp-is f s (frameOpened h) c (p .opened .unstamped i l) (kinds i bs)
-        ∙ ap₂ (λ (u v : Bool). cond u (stampOf (frameOpened h) true) (cond v (stampOf (frameOpened h) false) (c .stamp))) (cloud-same i) (mark-same i)
-        ∙ sym (ap (λ (x : Cell). x .stamp) (cell-after cs taken-too i l) ∙ stamp-is f s (frameOpened h) c (p .opened .unstamped i l) (kinds i cs)))
+        let o = freed f s (getD (g .odds) i nan) in
+        elim (cloud-cell i l w) [
+          | inl e ↦ inl (ap (λ (c : Cell). c .odds) e)
+          | inr e ↦ inr (ap (λ (c : Cell). c .odds) e
+              ∙ sym (ap (λ (d : Float). occupy f s o d) (back-step f s (frameOpened h) (record { odds = o; stamp = stampOf (frameOpened h) false }) refl)))
+        ]
 
-    odds-same : Multiples f h g → sweep f h g bs .grid .odds ≡ sweep f h g cs .grid .odds
-    odds-same m =
-        let a = after-sized bs (p .taken) in
-        let b = after-sized cs taken-too in
-        ext-getD nan (sweep f h g bs .grid .odds) (sweep f h g cs .grid .odds) (a .odds ∙ sym (b .odds))
-        (λ i q. let l : i < cells (h .extents) = omega (arith, a .odds) in
-        let s = stepsAt (h .model) i in
-        let c = cellAt (gridOpened h g) i in
-        let x = exact f (h .model) i (c .odds) (p .opened .model) (m .model) (p .opened .within i l) (m .odds i l) (m .clear-of-floor i l) in
-        ap (λ (y : Cell). y .odds) (cell-after bs (p .taken) i l) ∙ odds-are f s (frameOpened h) c (p .opened .unstamped i l) x (kinds i bs)
-        ∙ ap₂ (λ (u v : Bool). cond u (alone f s (c .odds)) (cond v (freed f s (c .odds)) (c .odds))) (cloud-same i) (mark-same i)
-        ∙ sym (ap (λ (y : Cell). y .odds) (cell-after cs taken-too i l) ∙ odds-are f s (frameOpened h) c (p .opened .unstamped i l) x (kinds i cs)))
+    pub ends : Ends f h g marksOf bs (marksLeave bs)
+    ends =
+        record {
+          hit-stamp = cloud-stamp;
+          clear-stamp = λ i l w z. ap (λ (c : Cell). c .stamp) (clear-cell i l w z);
+          untouched =
+              λ i l z. cell-after bs i l ∙ no-marks f (stepsAt (h .model) i) (frameOpened h) (cellAt (gridOpened h g) i) (p .unstamped i l)
+              (kinds i bs) (λ t. z (test-touched marksOf bs i t));
+          clear-odds = λ i l w z. ap (λ (c : Cell). c .odds) (clear-cell i l w z);
+          cloud-odds = cloud-odds;
+        }
+
+    -- ---- the same handed over
+    module _ (cs : List A) (e : Same bs cs) where
+      cloud-same : (i : ℕ) → anyCloud (kinds i bs) ≡ anyCloud (kinds i cs)
+      cloud-same i =
+          let x : Mark = record { place = i; occupied = true } in
+          bool-ext (anyCloud (kinds i bs)) (anyCloud (kinds i cs)) (λ t. hit-test marksOf cs i (makes-same marksOf bs cs x (e .there) (test-hit marksOf bs i t)))
+          (λ t. hit-test marksOf bs i (makes-same marksOf cs bs x (e .back) (test-hit marksOf cs i t)))
+
+      mark-same : (i : ℕ) → anyMark (kinds i bs) ≡ anyMark (kinds i cs)
+      mark-same i =
+          bool-ext (anyMark (kinds i bs)) (anyMark (kinds i cs))
+          (λ t. let w = test-touched marksOf bs i t in
+          touched-test marksOf cs i (w .0, makes-same marksOf bs cs (record { place = i; occupied = w .0 }) (e .there) (w .1)))
+          (λ t. let w = test-touched marksOf cs i t in
+          touched-test marksOf bs i (w .0, makes-same marksOf cs bs (record { place = i; occupied = w .0 }) (e .back) (w .1)))
+
+      pub stamps-same : marksLeave bs .stamps ≡ marksLeave cs .stamps
+      stamps-same =
+          let a = after-sized bs in
+          let b = after-sized cs in
+          ext-getD 0 (marksLeave bs .stamps) (marksLeave cs .stamps) (a .stamps ∙ sym (b .stamps))
+          (λ i q. let l : i < cells (h .extents) = omega (arith, a .stamps) in
+          let s = stepsAt (h .model) i in
+          let c = cellAt (gridOpened h g) i in
+          ap (λ (x : Cell). x .stamp) (cell-after bs i l) ∙ stamp-is f s (frameOpened h) c (p .unstamped i l) (kinds i bs)
+          ∙ ap₂ (λ (u v : Bool). cond u (stampOf (frameOpened h) true) (cond v (stampOf (frameOpened h) false) (c .stamp))) (cloud-same i) (mark-same i)
+          ∙ sym (ap (λ (x : Cell). x .stamp) (cell-after cs i l) ∙ stamp-is f s (frameOpened h) c (p .unstamped i l) (kinds i cs)))
+
+      pub odds-same : Multiples f h g → marksLeave bs .odds ≡ marksLeave cs .odds
+      odds-same m =
+          let a = after-sized bs in
+          let b = after-sized cs in
+          ext-getD nan (marksLeave bs .odds) (marksLeave cs .odds) (a .odds ∙ sym (b .odds))
+          (λ i q. let l : i < cells (h .extents) = omega (arith, a .odds) in
+          let s = stepsAt (h .model) i in
+          let c = cellAt (gridOpened h g) i in
+          let x = exact f (h .model) i (c .odds) (p .model) (m .model) (p .within i l) (m .odds i l) (m .clear-of-floor i l) in
+          ap (λ (y : Cell). y .odds) (cell-after bs i l) ∙ odds-are f s (frameOpened h) c (p .unstamped i l) x (kinds i bs)
+          ∙ ap₂ (λ (u v : Bool). cond u (alone f s (c .odds)) (cond v (freed f s (c .odds)) (c .odds))) (cloud-same i) (mark-same i)
+          ∙ sym (ap (λ (y : Cell). y .odds) (cell-after cs i l) ∙ odds-are f s (frameOpened h) c (p .unstamped i l) x (kinds i cs)))
 
 -- THE THEOREM
-pub demand-three : (f : Format) (h : Head) (g : Grid) (bs : List Beam) → Sweep f h g bs → Settled f h g bs
-demand-three f h g bs p =
-    record {
-      given-a-count = given-a-count f (h .extents) (h .model) (frameOpened h) bs (gridOpened h g) (p .taken);
-      ends = ends f h g bs p;
-      stamps-same = stamps-same f h g bs p;
-      stamps-permuted = λ cs q. stamps-same f h g bs p cs (permuted bs cs q);
-      stamps-repeated = λ b d. stamps-same f h g bs p (b ∷ bs) (repeated b bs d);
-      odds-same = λ m cs e. odds-same f h g bs p cs e m;
-      odds-permuted = λ m cs q. odds-same f h g bs p cs (permuted bs cs q) m;
-      odds-repeated = λ m b d. odds-same f h g bs p (b ∷ bs) (repeated b bs d) m;
-    }
+module _ (f : Format) (h : Head) (g : Grid) (bs : List Beam) (p : Sweep f h g bs) where
+  abbrev marksOf : Beam → Answer (List Mark)
+  marksOf b = beamMarks f (h .extents) b
+
+  list-leaves : (cs : List Beam) → Taken marksOf cs → sweep f h g cs .grid ≡ marksLeave f h g (p .opened) marksOf cs
+  list-leaves cs t = grid-is f (h .extents) (h .model) (frameOpened h) cs (gridOpened h g) t
+
+  stamps-too : (cs : List Beam) → Same bs cs → sweep f h g bs .grid .stamps ≡ sweep f h g cs .grid .stamps
+  stamps-too cs e =
+      ap (λ (x : Grid). x .stamps) (list-leaves bs (p .taken)) ∙ stamps-same f h g (p .opened) marksOf bs cs e
+      ∙ ap (λ (x : Grid). x .stamps) (sym (list-leaves cs (λ b d. p .taken b (e .back b d))))
+
+  odds-too : Multiples f h g → (cs : List Beam) → Same bs cs → sweep f h g bs .grid .odds ≡ sweep f h g cs .grid .odds
+  odds-too m cs e =
+      ap (λ (x : Grid). x .odds) (list-leaves bs (p .taken)) ∙ odds-same f h g (p .opened) marksOf bs cs e m
+      ∙ ap (λ (x : Grid). x .odds) (sym (list-leaves cs (λ b d. p .taken b (e .back b d))))
+
+  pub demand-three : Settled f h g bs
+  demand-three =
+      record {
+        given-a-count = given-a-count f (h .extents) (h .model) (frameOpened h) bs (gridOpened h g) (p .taken);
+        ends = subst (Ends f h g marksOf bs) (sym (list-leaves bs (p .taken))) (ends f h g (p .opened) marksOf bs);
+        stamps-same = stamps-too;
+        stamps-permuted = λ cs q. stamps-too cs (permuted bs cs q);
+        stamps-repeated = λ b d. stamps-too (b ∷ bs) (repeated b bs d);
+        odds-same = odds-too;
+        odds-permuted = λ m cs q. odds-too m cs (permuted bs cs q);
+        odds-repeated = λ m b d. odds-too m (b ∷ bs) (repeated b bs d);
+      }

@@ -9,11 +9,12 @@ use lib.Dec.{T, le→leb}
 use lib.ListN.{getD}
 use lib.Ieee.{Float, nan, Format, add, le}
 use lib.Ieee.Fits.{and-l, and-r}
+use Rattle.rules.specs.RefusalNumbers.{Answer}
 use Rattle.rules.specs.TheGridAndItsBounds.{Model, Head, Grid, cells, bounded, floor}
-use Rattle.rules.specs.MarksAndFrames.{Steps, pairFor, stepsAt, stampOf, freed, occupy, cellAt}
-use Rattle.rules.specs.OneBeam.{Beam}
+use Rattle.rules.specs.MarksAndFrames.{Mark, Steps, pairFor, stepsAt, stampOf, freed, occupy, cellAt}
+use Rattle.rules.specs.OneBeam.{Beam, beamMarks}
 use Rattle.laws.specs.Floats.Tests.{order}
-use Rattle.theorems.specs.DemandThree.{Sweep, sweep, Hit, frameOpened, oddsWithin, ofUnits, modelOfUnits, cloudAlone, cloudAfterClear}
+use Rattle.theorems.specs.DemandThree.{Opened, Ends, Sweep, sweep, Hit, frameOpened, oddsWithin, ofUnits, modelOfUnits, cloudAlone, cloudAfterClear}
 use Rattle.theorems.specs.DemandThree.Dyadic.{Units, dif, dif-units, add-dif, le-units}
 use Rattle.theorems.specs.DemandThree.Multiple.{many, plus, less}
 use Rattle.theorems.specs.DemandThree.TakeBack.{alone, takenBack, most, most-fits, StepUnits, free-is, freed-is, alone-is, back-low, take-back}
@@ -138,16 +139,21 @@ module _ (f : Format) (m : Model) (i : ℕ) (o : Float) (b : T (bounded m)) (n :
       (after-clear f s O F C u o (plus f o) (less f o) units (near .0) (near .1) (above f s O F C u o (of-units f o w .0) (of-units f o w .1) from-floor))
 
 -- THE THEOREM
-module _ (f : Format) (h : Head) (g : Grid) (bs : List Beam) (p : Sweep f h g bs) (e : InUnits f h g) where
-  hit-cell : (i : ℕ) → i < cells (h .extents) → Hit f (h .extents) bs i → Between f (stepsAt (h .model) i) (loneVote f h g i) (cellAt (sweep f h g bs .grid) i .odds)
+module _ {A : Type 0} (f : Format) (h : Head) (g : Grid) (marksOf : A → Answer (List Mark)) (bs : List A) (after : Grid) (p : Opened h g) (c : Ends f h g marksOf bs after) (e : InUnits f h g) where
+  hit-cell : (i : ℕ) → i < cells (h .extents) → Hit marksOf bs i → Between f (stepsAt (h .model) i) (loneVote f h g i) (cellAt after i .odds)
   unfolding s
   hit-cell i l w =
       let o = getD (g .odds) i nan in
       let B : Float → Type 0 = λ x. Between f (stepsAt (h .model) i) (loneVote f h g i) x in
-      elim (demand-three f h g bs p .ends .cloud-odds i l w) [
-        | inl q ↦ subst B (sym q) (hit-alone f (h .model) i o (p .opened .model) (e .model) (p .opened .within i l) (e .odds i l))
-        | inr q ↦ subst B (sym q) (hit-after-clear f (h .model) i o (p .opened .model) (e .model) (p .opened .within i l) (e .odds i l) (frameOpened h))
+      elim (c .cloud-odds i l w) [
+        | inl q ↦ subst B (sym q) (hit-alone f (h .model) i o (p .model) (e .model) (p .within i l) (e .odds i l))
+        | inr q ↦ subst B (sym q) (hit-after-clear f (h .model) i o (p .model) (e .model) (p .within i l) (e .odds i l) (frameOpened h))
       ]
 
-  pub floor-cost : FloorCost f h g bs (sweep f h g bs .grid)
-  floor-cost = record { no-higher = λ i l w. hit-cell i l w .no-higher; one-clear-step = λ i l w. hit-cell i l w .one-clear-step }
+  -- wherever cells end as demand 3 has it
+  pub ends-cost : FloorCost f h g marksOf bs after
+  ends-cost = record { no-higher = λ i l w. hit-cell i l w .no-higher; one-clear-step = λ i l w. hit-cell i l w .one-clear-step }
+
+-- of one list of beams
+pub floor-cost : (f : Format) (h : Head) (g : Grid) (bs : List Beam) → Sweep f h g bs → InUnits f h g → FloorCost f h g (beamMarks f (h .extents)) bs (sweep f h g bs .grid)
+floor-cost f h g bs p e = ends-cost f h g (beamMarks f (h .extents)) bs (sweep f h g bs .grid) (p .opened) (demand-three f h g bs p .ends) e

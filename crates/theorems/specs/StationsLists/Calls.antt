@@ -1,4 +1,4 @@
--- Calls one after another: where none is refused, they leave the marks of all beams that they hand over; and whether one is refused does not turn on the
+-- Calls one after another: where none is refused, they leave the marks of all that they hand over; and whether one is refused does not turn on the
 -- calls before it, so the same calls in another order, or repeated, are accepted too. Assumes nothing.
 use Prim.Native.Nat.{ℕ}
 use mathlib.Core.Path.{_≡_, refl, sym, ap, ap₂, _∙_, subst}
@@ -7,27 +7,27 @@ use mathlib.Core.List.{List, [], _∷_, _++_, append-assoc, List·Memᴰ, List·
 use mathlib.Core.List.{Memᴰ·append-left, Memᴰ·append-right}
 use mathlib.Core.Option.{none}
 use lib.Ieee.{Format}
+use Rattle.rules.specs.RefusalNumbers.{Answer}
 use Rattle.rules.specs.RefusalNumbers.Entries.{headRefusal, usesOf, beams}
 use Rattle.rules.specs.TheGridAndItsBounds.{Head, Grid}
 use Rattle.rules.specs.MarksAndFrames.{Mark, marked}
-use Rattle.rules.specs.OneBeam.{Beam, beamMarks}
 use Rattle.laws.specs.MarkLists.{marked-append, marked-odds, marked-stamps}
-use Rattle.theorems.specs.DemandThree.{SameBeams}
+use Rattle.theorems.specs.DemandThree.{Same}
 use Rattle.theorems.specs.DemandThree.Beams.{marksGiven, Taken, allMarks}
-use Rattle.theorems.specs.StationsLists.Words.{Call, outcome, left, Accepted, handsOver, handed}
+use Rattle.theorems.specs.StationsLists.Words.{Call, outcome, left, Accepted, Handed, handMarks, handsOver, handed}
 use Rattle.theorems.specs.StationsLists.OneCall.{tried, Good, good-of, does}
 
--- ---- two lists of beams
-marks-joined : (f : Format) (es : List ℕ) (bs cs : List Beam) → allMarks f es (bs ++ cs) ≡ allMarks f es bs ++ allMarks f es cs
-marks-joined f es [] cs = refl
-marks-joined f es (b ∷ bs) cs =
-    let xs = marksGiven (beamMarks f es b) in
-    ap (λ (ys : List Mark). xs ++ ys) (marks-joined f es bs cs) ∙ sym (append-assoc xs (allMarks f es bs) (allMarks f es cs))
+-- ---- two lists
+marks-joined : {A : Type 0} (marksOf : A → Answer (List Mark)) (bs cs : List A) → allMarks marksOf (bs ++ cs) ≡ allMarks marksOf bs ++ allMarks marksOf cs
+marks-joined marksOf [] cs = refl
+marks-joined marksOf (b ∷ bs) cs =
+    let xs = marksGiven (marksOf b) in
+    ap (λ (ys : List Mark). xs ++ ys) (marks-joined marksOf bs cs) ∙ sym (append-assoc xs (allMarks marksOf bs) (allMarks marksOf cs))
 
 -- ---- what calls leave
 pub record Came (f : Format) (h : Head) (cs : List Call) (g : Grid) : Type 0 where
-  pub taken : Taken f (h .extents) (handed f (h .extents) cs)
-  pub leaves : left f h cs g ≡ marked f (h .model) (h .frame) (allMarks f (h .extents) (handed f (h .extents) cs)) g
+  pub taken : Taken (handMarks f (h .extents)) (handed f (h .extents) cs)
+  pub leaves : left f h cs g ≡ marked f (h .model) (h .frame) (allMarks (handMarks f (h .extents)) (handed f (h .extents) cs)) g
 
 module _ (f : Format) (h : Head) where
   pub came : (cs : List Call) (g : Grid) → Accepted f h cs g → Came f h cs g
@@ -38,13 +38,13 @@ module _ (f : Format) (h : Head) where
       let w = good-of f h g (a .0 .0) c (a .0 .1) in
       let d = does f h g (w .0) c (w .1) in
       let r = came cs (outcome f h c g .lent) (a .1) in
-      let xs = allMarks f es (handsOver f es c) in
-      let ys = allMarks f es (handed f es cs) in
+      let xs = allMarks (handMarks f es) (handsOver f es c) in
+      let ys = allMarks (handMarks f es) (handed f es cs) in
       record {
         taken = λ b m. elim (List·Memᴰ·append-cases (handsOver f es c) m) [ inl q ↦ w .1 .taken b q | inr q ↦ r .taken b q ];
         leaves =
             r .leaves ∙ ap (λ (x : Grid). marked f (h .model) (h .frame) ys x) (d .leaves) ∙ sym (marked-append f (h .model) (h .frame) xs ys g)
-            ∙ ap (λ (zs : List Mark). marked f (h .model) (h .frame) zs g) (sym (marks-joined f es (handsOver f es c) (handed f es cs)));
+            ∙ ap (λ (zs : List Mark). marked f (h .model) (h .frame) zs g) (sym (marks-joined (handMarks f es) (handsOver f es c) (handed f es cs)));
       }
 
   -- ---- the same calls
@@ -66,15 +66,15 @@ module _ (f : Format) (h : Head) where
       let v = w d (List·Memᴰ·head refl) in
       let r = does f h g (v .0) d (v .1) in
       let same : tried h (outcome f h d g .lent) ≡ tried h g =
-      ap (tried h) (r .leaves) ∙ marks-tried (allMarks f (h .extents) (handsOver f (h .extents) d)) g in
+      ap (tried h) (r .leaves) ∙ marks-tried (allMarks (handMarks f (h .extents)) (handsOver f (h .extents) d)) g in
       (r .count, all-accepted ds (outcome f h d g .lent) (λ c m. (same ∙ v .0, w c (List·Memᴰ·tail m) .1)))
 
   pub accepted-too : (cs ds : List Call) (g : Grid) → ((c : Call) → List·Memᴰ c ds → List·Memᴰ c cs) → Accepted f h cs g → Accepted f h ds g
   accepted-too cs ds g back a = all-accepted ds g (λ c m. all-good cs g a c (back c m))
 
--- ---- the beams of the same calls are the same beams
+-- ---- the same calls hand over the same
 module _ (f : Format) (es : List ℕ) where
-  find : (cs : List Call) (b : Beam) → List·Memᴰ b (handed f es cs) → (c : Call) × List·Memᴰ c cs × List·Memᴰ b (handsOver f es c)
+  find : (cs : List Call) (b : Handed) → List·Memᴰ b (handed f es cs) → (c : Call) × List·Memᴰ c cs × List·Memᴰ b (handsOver f es c)
   find [] b m = absurd (List·Memᴰ·not-nil m)
   find (c ∷ cs) b m =
       elim (List·Memᴰ·append-cases (handsOver f es c) m) [
@@ -82,7 +82,7 @@ module _ (f : Format) (es : List ℕ) where
         | inr q ↦ (let r = find cs b q in (r .0, List·Memᴰ·tail (r .1), r .2))
       ]
 
-  among : (cs : List Call) (c : Call) (b : Beam) → List·Memᴰ c cs → List·Memᴰ b (handsOver f es c) → List·Memᴰ b (handed f es cs)
+  among : (cs : List Call) (c : Call) (b : Handed) → List·Memᴰ c cs → List·Memᴰ b (handsOver f es c) → List·Memᴰ b (handed f es cs)
   among [] c b m q = absurd (List·Memᴰ·not-nil m)
   among (d ∷ cs) c b m q =
       elim (List·Memᴰ·cases-cons m) [
@@ -90,9 +90,9 @@ module _ (f : Format) (es : List ℕ) where
         | inr e ↦ Memᴰ·append-right (handsOver f es d) (among cs c b e q)
       ]
 
-  handed-too : (cs ds : List Call) → ((c : Call) → List·Memᴰ c cs → List·Memᴰ c ds) → (b : Beam) → List·Memᴰ b (handed f es cs) → List·Memᴰ b (handed f es ds)
+  handed-too : (cs ds : List Call) → ((c : Call) → List·Memᴰ c cs → List·Memᴰ c ds) → (b : Handed) → List·Memᴰ b (handed f es cs) → List·Memᴰ b (handed f es ds)
   handed-too cs ds there b m = let r = find cs b m in among ds (r .0) b (there (r .0) (r .1)) (r .2)
 
-  pub same-beams : (cs ds : List Call) → ((c : Call) → List·Memᴰ c cs → List·Memᴰ c ds) → ((c : Call) → List·Memᴰ c ds → List·Memᴰ c cs)
-      → SameBeams (handed f es cs) (handed f es ds)
-  same-beams cs ds there back = record { there = handed-too cs ds there; back = handed-too ds cs back }
+  pub same-handed : (cs ds : List Call) → ((c : Call) → List·Memᴰ c cs → List·Memᴰ c ds) → ((c : Call) → List·Memᴰ c ds → List·Memᴰ c cs)
+      → Same (handed f es cs) (handed f es ds)
+  same-handed cs ds there back = record { there = handed-too cs ds there; back = handed-too ds cs back }

@@ -15,37 +15,36 @@ use Rattle.rules.specs.RefusalNumbers.{Refusal, given, noRoom}
 use Rattle.rules.specs.RefusalNumbers.Entries.{Outcome, orElse, unlessHolds, unlessRefused, headRefusal}
 use Rattle.rules.specs.TheGridAndItsBounds.{Head, Grid, cells, onePerCell, lastExtent, layerOf}
 use Rattle.rules.specs.MarksAndFrames.{Cell, stepsAt, freed}
-use Rattle.rules.specs.OneBeam.{Beam}
 use Rattle.rules.specs.LayerChart.{eighths, cutsIn, chartOf, firstNan, chartRefusal, charted, chartUses, layerChartEntry}
 use Rattle.laws.specs.Floats.Tests.{order}
 use Rattle.laws.specs.MarkLists.{marked-odds}
-use Rattle.theorems.specs.DemandThree.{headOpened, gridOpened, frameOpened, Hit, Touched, SameBeams, Opened}
+use Rattle.theorems.specs.DemandThree.{headOpened, gridOpened, frameOpened, Hit, Touched, Same, Opened}
 use Rattle.theorems.specs.DemandThree.Beams.{allMarks, makes-same, hit-test, test-hit, touched-test, test-touched}
 use Rattle.theorems.specs.DemandThree.Orders.{anyCloud, anyMark, kindsOn}
 use Rattle.theorems.specs.FlatList.{is-true}
 use Rattle.theorems.specs.FloorCost.{InUnits, loneVote}
 use Rattle.theorems.specs.LayerChart.Order.{eighths-more}
 use Rattle.theorems.specs.LayerChart.More.{above-joined, above-same, chart-more, none-first}
-use Rattle.theorems.specs.StationsLists.Words.{Call, handed, night, NoneRefused}
+use Rattle.theorems.specs.StationsLists.Words.{Call, Handed, handMarks, handed, night, NoneRefused}
 use Rattle.theorems.specs.StationsLists.ChartWords.{LoneVotes, NoThicker}
 use Rattle.theorems.specs.StationsLists.OneCall.{not-refused, neither}
 use Rattle.theorems.specs.StationsLists.Calls.{came}
 use Rattle.theorems.specs.StationsLists.Proof.{ends, costs}
 
 -- ---- how a cell was met
-pub data Met (f : Format) (es : List ℕ) (bs : List Beam) (i : ℕ) : Type 0 where
-  was-hit : Hit f es bs i → Met f es bs i
-  was-clear : Touched f es bs i → ¬ Hit f es bs i → Met f es bs i
-  was-left : ¬ Touched f es bs i → Met f es bs i
+pub data Met (f : Format) (es : List ℕ) (bs : List Handed) (i : ℕ) : Type 0 where
+  was-hit : Hit (handMarks f es) bs i → Met f es bs i
+  was-clear : Touched (handMarks f es) bs i → ¬ Hit (handMarks f es) bs i → Met f es bs i
+  was-left : ¬ Touched (handMarks f es) bs i → Met f es bs i
 
-module _ (f : Format) (es : List ℕ) (bs : List Beam) (i : ℕ) where
+module _ (f : Format) (es : List ℕ) (bs : List Handed) (i : ℕ) where
   met : Met f es bs i
-  met = go (anyCloud (kindsOn i (allMarks f es bs))) (anyMark (kindsOn i (allMarks f es bs))) refl refl
+  met = go (anyCloud (kindsOn i (allMarks (handMarks f es) bs))) (anyMark (kindsOn i (allMarks (handMarks f es) bs))) refl refl
     where
-      go : (b c : Bool) → anyCloud (kindsOn i (allMarks f es bs)) ≡ b → anyMark (kindsOn i (allMarks f es bs)) ≡ c → Met f es bs i
-      go true c p q = was-hit (test-hit f es bs i (subst T (sym p) tt))
-      go false true p q = was-clear (test-touched f es bs i (subst T (sym q) tt)) (λ w. subst T p (hit-test f es bs i w))
-      go false false p q = was-left (λ w. subst T q (touched-test f es bs i w))
+      go : (b c : Bool) → anyCloud (kindsOn i (allMarks (handMarks f es) bs)) ≡ b → anyMark (kindsOn i (allMarks (handMarks f es) bs)) ≡ c → Met f es bs i
+      go true c p q = was-hit (test-hit (handMarks f es) bs i (subst T (sym p) tt))
+      go false true p q = was-clear (test-touched (handMarks f es) bs i (subst T (sym q) tt)) (λ w. subst T p (hit-test (handMarks f es) bs i w))
+      go false false p q = was-left (λ w. subst T q (touched-test (handMarks f es) bs i w))
 
 -- ---- the map to compare with
 tabled : (ℕ → Float) → ℕ → ℕ → List Float
@@ -63,10 +62,10 @@ tabled-at value k zero i l = absurd (not-suc-le-zero l)
 tabled-at value k (suc n) zero l = ap value (sym (add-zero k))
 tabled-at value k (suc n) (suc i) l = tabled-at value (suc k) n i (le-of-suc-le-suc l) ∙ ap value (suc-add k i ∙ sym (add-suc k i))
 
-module _ (f : Format) (h : Head) (g : Grid) (bs : List Beam) where
+module _ (f : Format) (h : Head) (g : Grid) (bs : List Handed) where
   voted : ℕ → Float
   voted i =
-      let ks = kindsOn i (allMarks f (h .extents) bs) in
+      let ks = kindsOn i (allMarks (handMarks f (h .extents)) bs) in
       cond (anyCloud ks) (loneVote f h g i) (cond (anyMark ks) (freed f (stepsAt (h .model) i) (getD (g .odds) i nan)) (getD (g .odds) i nan))
 
   none-of : (b : Bool) → ¬ T b → b ≡ false
@@ -80,28 +79,28 @@ module _ (f : Format) (h : Head) (g : Grid) (bs : List Beam) where
         tabled voted 0 (cells es),
         record {
           one-per-cell = tabled-length voted 0 (cells es);
-          hit = λ i l w. tabled-at voted 0 (cells es) i l ∙ ap voted (zero-add i) ∙ rw (is-true (anyCloud (kindsOn i (allMarks f es bs))) (hit-test f es bs i w)) refl;
+          hit = λ i l w. tabled-at voted 0 (cells es) i l ∙ ap voted (zero-add i) ∙ rw (is-true (anyCloud (kindsOn i (allMarks (handMarks f es) bs))) (hit-test (handMarks f es) bs i w)) refl;
           clear = λ i l w z. tabled-at voted 0 (cells es) i l ∙ ap voted (zero-add i)
               ∙ rw (
-                none-of (anyCloud (kindsOn i (allMarks f es bs))) (λ t. z (test-hit f es bs i t)),
-                is-true (anyMark (kindsOn i (allMarks f es bs))) (touched-test f es bs i w),
+                none-of (anyCloud (kindsOn i (allMarks (handMarks f es) bs))) (λ t. z (test-hit (handMarks f es) bs i t)),
+                is-true (anyMark (kindsOn i (allMarks (handMarks f es) bs))) (touched-test (handMarks f es) bs i w),
               ) refl;
           untouched = λ i l z. tabled-at voted 0 (cells es) i l ∙ ap voted (zero-add i)
               ∙ rw (
-                none-of (anyCloud (kindsOn i (allMarks f es bs))) (λ t. z (true, test-hit f es bs i t)),
-                none-of (anyMark (kindsOn i (allMarks f es bs))) (λ t. z (test-touched f es bs i t)),
+                none-of (anyCloud (kindsOn i (allMarks (handMarks f es) bs))) (λ t. z (true, test-hit (handMarks f es) bs i t)),
+                none-of (anyMark (kindsOn i (allMarks (handMarks f es) bs))) (λ t. z (test-touched (handMarks f es) bs i t)),
               ) refl;
         },
       )
 
 -- the same beams have the same map to compare with
-pub votes-same : (f : Format) (h : Head) (g : Grid) (bs cs : List Beam) (odds : List Float) → SameBeams bs cs → LoneVotes f h g bs odds → LoneVotes f h g cs odds
+pub votes-same : (f : Format) (h : Head) (g : Grid) (bs cs : List Handed) (odds : List Float) → Same bs cs → LoneVotes f h g bs odds → LoneVotes f h g cs odds
 votes-same f h g bs cs odds e v =
     let es = h .extents in
-    let touched-back : (i : ℕ) → Touched f es cs i → Touched f es bs i = λ i w. (w .0, makes-same f es cs bs (record { place = i; occupied = w .0 }) (e .back) (w .1)) in
-    let touched-there : (i : ℕ) → Touched f es bs i → Touched f es cs i = λ i w. (w .0, makes-same f es bs cs (record { place = i; occupied = w .0 }) (e .there) (w .1)) in
-    let hit-back : (i : ℕ) → Hit f es cs i → Hit f es bs i = λ i w. makes-same f es cs bs (record { place = i; occupied = true }) (e .back) w in
-    let hit-there : (i : ℕ) → Hit f es bs i → Hit f es cs i = λ i w. makes-same f es bs cs (record { place = i; occupied = true }) (e .there) w in
+    let touched-back : (i : ℕ) → Touched (handMarks f es) cs i → Touched (handMarks f es) bs i = λ i w. (w .0, makes-same (handMarks f es) cs bs (record { place = i; occupied = w .0 }) (e .back) (w .1)) in
+    let touched-there : (i : ℕ) → Touched (handMarks f es) bs i → Touched (handMarks f es) cs i = λ i w. (w .0, makes-same (handMarks f es) bs cs (record { place = i; occupied = w .0 }) (e .there) (w .1)) in
+    let hit-back : (i : ℕ) → Hit (handMarks f es) cs i → Hit (handMarks f es) bs i = λ i w. makes-same (handMarks f es) cs bs (record { place = i; occupied = true }) (e .back) w in
+    let hit-there : (i : ℕ) → Hit (handMarks f es) bs i → Hit (handMarks f es) cs i = λ i w. makes-same (handMarks f es) bs cs (record { place = i; occupied = true }) (e .there) w in
     record {
       one-per-cell = v .one-per-cell;
       hit = λ i l w. v .hit i l (hit-back i w);
@@ -131,13 +130,13 @@ module _ (f : Format) (h : Head) (g : Grid) (o : Opened h g) (cs : List Call) (a
   unfolding onePerCell
   as-many =
       ap (λ (x : Grid). length (x .odds)) (came f (headOpened h) cs (gridOpened h g) a .leaves)
-      ∙ marked-odds f (h .model) (frameOpened h) (allMarks f (h .extents) (handed f (h .extents) cs)) (gridOpened h g)
+      ∙ marked-odds f (h .model) (frameOpened h) (allMarks (handMarks f (h .extents)) (handed f (h .extents) cs)) (gridOpened h g)
       ∙ eqb→eq (length (g .odds)) (cells (h .extents)) (o .odds-per-cell)
 
   each : (p : ℕ) → NoHigher odds other p
   each p = go (order p (cells (h .extents)))
     where
-      bs : List Beam
+      bs : List Handed
       bs = handed f (h .extents) cs
 
       on-map : p < cells (h .extents) → Met f (h .extents) (handed f (h .extents) cs) p → NoHigher odds other p

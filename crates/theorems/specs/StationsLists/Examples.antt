@@ -1,15 +1,16 @@
--- The promise is not empty: on a map of three axes a night of all five kinds of calls that meets every premise, with the counts; and the same night
+-- The promise is not empty: on a map of three axes a night of all six kinds of calls that meets every premise, with the counts; and the same night
 -- backwards, whose counts differ and whose stamps and odds do not. By computation of the definitions.
 use Prim.Native.Nat.{ℕ}
 use mathlib.Core.Path.{_≡_, refl}
 use mathlib.Core.Bool.{Bool, true, _&&_}
 use mathlib.Core.List.{List, [], _∷_}
 use lib.Dec.{T}
+use lib.IntN.{pos}
 use lib.Ieee.{Format, binary64, toBits}
 use lib.Ieee.Fits.{and-l, and-r}
 use Rattle.rules.specs.Floats.{halfF}
 use Rattle.rules.specs.RefusalNumbers.{Answer, given}
-use Rattle.rules.specs.RefusalNumbers.Entries.{firstTooSmall, extentsRefusal, headRefusal, updateRayEntry, updateScanEntry, updateBeamsEntry}
+use Rattle.rules.specs.RefusalNumbers.Entries.{firstTooSmall, extentsRefusal, headRefusal, updateRayEntry, updateScanEntry, updateBeamsEntry, markEntry}
 use Rattle.rules.specs.TheGridAndItsBounds.{Head, Grid, lastExtent, rising, cutsBelow, cutsInBounds}
 use Rattle.rules.specs.OneBeam.{allBits, flatShape, beamsOf}
 use Rattle.rules.specs.Fields.{littleEndian, fromLittleEndian, field, fieldHere, floatBytes, floatsIn}
@@ -18,7 +19,7 @@ use Rattle.rules.specs.VerticalBeam.{inProfile, columnPlace, columnMarks, endsO
 use Rattle.theorems.specs.DemandThree.{headOpened, gridOpened, Opened, Multiples}
 use Rattle.theorems.specs.DemandThree.AsTests.{isGiven, is-given, opened-holds, multiples-hold}
 use Rattle.theorems.specs.DemandThree.Examples.{plus, head3, grid3, cloud, clear, opened}
-use Rattle.theorems.specs.StationsLists.Words.{Call, ray, flat-list, slice, file, upright, outcome, Accepted, night, NoneRefused}
+use Rattle.theorems.specs.StationsLists.Words.{Call, ray, flat-list, slice, file, upright, mark, outcome, Accepted, night, NoneRefused}
 
 -- none is refused, as a test
 abbrev pub accepts : Format → Head → List Call → Grid → Bool
@@ -46,22 +47,26 @@ list = flat-list (halfF ∷ halfF ∷ halfF ∷ plus 3 2 ∷ halfF ∷ halfF ∷
 abbrev pub structs : Call
 structs = slice (clear (halfF ∷ []) ∷ [])
 
--- station 7 mails the Hit again and one on the layer above, an older one looks straight up from cell 1, a keeper sends the first beam again
+-- station 7 mails the Hit again and one on the layer above, an older one looks straight up from cell 1, a keeper sends the first beam again, and marks cell 3,
+-- which the structs' beam crosses
 abbrev mailed : Call
 mailed = file (sweepBytes 3 7 (cloud (halfF ∷ []) ∷ cloud (plus 3 2 ∷ []) ∷ []))
 
 abbrev straight : Call
 straight = upright (record { x = 1; y = 0; bottom = 0; top = 2; hit = true })
 
+abbrev cloudMark : Call
+cloudMark = mark true (pos 1 ∷ pos 1 ∷ pos 0 ∷ [])
+
 abbrev calls : List Call
-calls = structs ∷ list ∷ mailed ∷ straight ∷ ray (cloud (halfF ∷ [])) ∷ []
+calls = structs ∷ list ∷ mailed ∷ straight ∷ ray (cloud (halfF ∷ [])) ∷ cloudMark ∷ []
 
 abbrev backwards : List Call
-backwards = ray (cloud (halfF ∷ [])) ∷ straight ∷ mailed ∷ list ∷ structs ∷ []
+backwards = cloudMark ∷ ray (cloud (halfF ∷ [])) ∷ straight ∷ mailed ∷ list ∷ structs ∷ []
 
 -- Opening this opens what the entries compute through.
 unfoldable pub openedEntries : ℕ
-unfolding firstTooSmall extentsRefusal headRefusal updateRayEntry updateScanEntry updateBeamsEntry lastExtent rising cutsBelow cutsInBounds allBits flatShape beamsOf
+unfolding firstTooSmall extentsRefusal headRefusal updateRayEntry updateScanEntry updateBeamsEntry markEntry lastExtent rising cutsBelow cutsInBounds allBits flatShape beamsOf
 openedEntries = 0
 
 unfoldable openedBytes : ℕ
@@ -81,12 +86,12 @@ pub record Night : Type 0 where
   pub sweep-opened : Opened head3 grid3
   pub in-multiples : Multiples binary64 head3 grid3
   pub none-refused : NoneRefused binary64 head3 grid3 calls
-  -- Five counts, and five others backwards.
-  pub counts : answers binary64 (headOpened head3) calls (gridOpened head3 grid3) ≡ given 2 ∷ given 2 ∷ given 2 ∷ given 1 ∷ given 0 ∷ []
-  pub counts-backwards : answers binary64 (headOpened head3) backwards (gridOpened head3 grid3) ≡ given 2 ∷ given 2 ∷ given 2 ∷ given 0 ∷ given 1 ∷ []
+  -- Six counts, and six others backwards.
+  pub counts : answers binary64 (headOpened head3) calls (gridOpened head3 grid3) ≡ given 2 ∷ given 2 ∷ given 2 ∷ given 1 ∷ given 0 ∷ given 1 ∷ []
+  pub counts-backwards : answers binary64 (headOpened head3) backwards (gridOpened head3 grid3) ≡ given 1 ∷ given 2 ∷ given 2 ∷ given 2 ∷ given 0 ∷ given 0 ∷ []
   -- The same stamps.
-  pub stamps : night binary64 head3 grid3 calls .stamps ≡ 4 ∷ 5 ∷ 2 ∷ 4 ∷ 4 ∷ 5 ∷ 0 ∷ 0 ∷ 0 ∷ 5 ∷ 0 ∷ 0 ∷ []
-  pub stamps-backwards : night binary64 head3 grid3 backwards .stamps ≡ 4 ∷ 5 ∷ 2 ∷ 4 ∷ 4 ∷ 5 ∷ 0 ∷ 0 ∷ 0 ∷ 5 ∷ 0 ∷ 0 ∷ []
+  pub stamps : night binary64 head3 grid3 calls .stamps ≡ 4 ∷ 5 ∷ 2 ∷ 5 ∷ 4 ∷ 5 ∷ 0 ∷ 0 ∷ 0 ∷ 5 ∷ 0 ∷ 0 ∷ []
+  pub stamps-backwards : night binary64 head3 grid3 backwards .stamps ≡ 4 ∷ 5 ∷ 2 ∷ 5 ∷ 4 ∷ 5 ∷ 0 ∷ 0 ∷ 0 ∷ 5 ∷ 0 ∷ 0 ∷ []
 
 pub a-night : Night
 unfolding opened openedEntries openedFile openedProfile
