@@ -139,7 +139,8 @@ module _ (f : Format) (m : Model) (i : ℕ) (o : Float) (b : T (bounded m)) (n :
       (after-clear f s O F C u o (plus f o) (less f o) units (near .0) (near .1) (above f s O F C u o (of-units f o w .0) (of-units f o w .1) from-floor))
 
 -- THE THEOREM
-module _ {A : Type 0} (f : Format) (h : Head) (g : Grid) (marksOf : A → Answer (List Mark)) (bs : List A) (after : Grid) (p : Opened h g) (c : Ends f h g marksOf bs after) (e : InUnits f h g) where
+module _ {A : Type 0} (f : Format) (h : Head) (g : Grid) (marksOf : A → Answer (List Mark)) (bs : List A) (after : Grid)
+    (p : Opened h g) (c : Ends f h g marksOf bs after) (e : InUnits f h g) where
   hit-cell : (i : ℕ) → i < cells (h .extents) → Hit marksOf bs i → Between f (stepsAt (h .model) i) (loneVote f h g i) (cellAt after i .odds)
   unfolding s
   hit-cell i l w =

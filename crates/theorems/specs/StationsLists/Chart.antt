@@ -5,20 +5,20 @@ use mathlib.Core.Path.{_≡_, refl, sym, ap, _∙_, subst}
 use mathlib.Core.Logic.{_⊎_, inl, inr}
 use mathlib.Core.Bool.{Bool, true, false, cond}
 use mathlib.Core.List.{List, [], _∷_}
-use mathlib.Core.Option.{Option, some, none}
+use mathlib.Core.Option.{none}
 use native.Mathlib.Nat.{not-suc-le-zero, le-of-suc-le-suc, zero-add, add-zero, add-suc, suc-add}
 use native.Mathlib.Omega.{arith}
 use lib.Dec.{T, leb, eqb→eq}
 use lib.ListN.{length, getD, drop, List·getD-eq-default}
 use lib.Ieee.{Float, nan, inf, fin, Format, isNan, le, lt, eq}
-use Rattle.rules.specs.RefusalNumbers.{Refusal, given, noRoom}
-use Rattle.rules.specs.RefusalNumbers.Entries.{Outcome, orElse, unlessHolds, unlessRefused, headRefusal}
+use Rattle.rules.specs.RefusalNumbers.{given, noRoom}
+use Rattle.rules.specs.RefusalNumbers.Entries.{orElse, unlessHolds, headRefusal}
 use Rattle.rules.specs.TheGridAndItsBounds.{Head, Grid, cells, onePerCell, lastExtent, layerOf}
-use Rattle.rules.specs.MarksAndFrames.{Cell, stepsAt, freed}
+use Rattle.rules.specs.MarksAndFrames.{Cell, Mark, stepsAt, freed}
 use Rattle.rules.specs.LayerChart.{eighths, cutsIn, chartOf, firstNan, chartRefusal, charted, chartUses, layerChartEntry}
 use Rattle.laws.specs.Floats.Tests.{order}
 use Rattle.laws.specs.MarkLists.{marked-odds}
-use Rattle.theorems.specs.DemandThree.{headOpened, gridOpened, frameOpened, Hit, Touched, Same, Opened}
+use Rattle.theorems.specs.DemandThree.{headOpened, gridOpened, frameOpened, Makes, Hit, Touched, Same, Opened}
 use Rattle.theorems.specs.DemandThree.Beams.{allMarks, makes-same, hit-test, test-hit, touched-test, test-touched}
 use Rattle.theorems.specs.DemandThree.Orders.{anyCloud, anyMark, kindsOn}
 use Rattle.theorems.specs.FlatList.{is-true}
@@ -79,7 +79,8 @@ module _ (f : Format) (h : Head) (g : Grid) (bs : List Handed) where
         tabled voted 0 (cells es),
         record {
           one-per-cell = tabled-length voted 0 (cells es);
-          hit = λ i l w. tabled-at voted 0 (cells es) i l ∙ ap voted (zero-add i) ∙ rw (is-true (anyCloud (kindsOn i (allMarks (handMarks f es) bs))) (hit-test (handMarks f es) bs i w)) refl;
+          hit = λ i l w. tabled-at voted 0 (cells es) i l ∙ ap voted (zero-add i)
+              ∙ rw (is-true (anyCloud (kindsOn i (allMarks (handMarks f es) bs))) (hit-test (handMarks f es) bs i w)) refl;
           clear = λ i l w z. tabled-at voted 0 (cells es) i l ∙ ap voted (zero-add i)
               ∙ rw (
                 none-of (anyCloud (kindsOn i (allMarks (handMarks f es) bs))) (λ t. z (test-hit (handMarks f es) bs i t)),
@@ -96,16 +97,13 @@ module _ (f : Format) (h : Head) (g : Grid) (bs : List Handed) where
 -- the same beams have the same map to compare with
 pub votes-same : (f : Format) (h : Head) (g : Grid) (bs cs : List Handed) (odds : List Float) → Same bs cs → LoneVotes f h g bs odds → LoneVotes f h g cs odds
 votes-same f h g bs cs odds e v =
-    let es = h .extents in
-    let touched-back : (i : ℕ) → Touched (handMarks f es) cs i → Touched (handMarks f es) bs i = λ i w. (w .0, makes-same (handMarks f es) cs bs (record { place = i; occupied = w .0 }) (e .back) (w .1)) in
-    let touched-there : (i : ℕ) → Touched (handMarks f es) bs i → Touched (handMarks f es) cs i = λ i w. (w .0, makes-same (handMarks f es) bs cs (record { place = i; occupied = w .0 }) (e .there) (w .1)) in
-    let hit-back : (i : ℕ) → Hit (handMarks f es) cs i → Hit (handMarks f es) bs i = λ i w. makes-same (handMarks f es) cs bs (record { place = i; occupied = true }) (e .back) w in
-    let hit-there : (i : ℕ) → Hit (handMarks f es) bs i → Hit (handMarks f es) cs i = λ i w. makes-same (handMarks f es) bs cs (record { place = i; occupied = true }) (e .there) w in
+    let there : (x : Mark) → Makes (handMarks f (h .extents)) bs x → Makes (handMarks f (h .extents)) cs x = λ x. makes-same (handMarks f (h .extents)) bs cs x (e .there) in
+    let back : (x : Mark) → Makes (handMarks f (h .extents)) cs x → Makes (handMarks f (h .extents)) bs x = λ x. makes-same (handMarks f (h .extents)) cs bs x (e .back) in
     record {
       one-per-cell = v .one-per-cell;
-      hit = λ i l w. v .hit i l (hit-back i w);
-      clear = λ i l w z. v .clear i l (touched-back i w) (λ y. z (hit-there i y));
-      untouched = λ i l z. v .untouched i l (λ y. z (touched-there i y));
+      hit = λ i l w. v .hit i l (back _ w);
+      clear = λ i l w z. v .clear i l (w .0, back _ (w .1)) (λ y. z (there _ y));
+      untouched = λ i l z. v .untouched i l (λ y. z (y .0, there _ (y .1)));
     }
 
 -- ---- each cell

@@ -124,7 +124,8 @@ module _ (f : Format) (h : Head) (g : Grid) (n : ℕ) where
   unfolding updateRayEntry integratedBeam
   ray-good b e =
       let p = not-refused (tried h g) g _ n e in
-      (p .0, record { well-formed = tt; taken = hands-taken f (h .extents) (b ∷ []) (one-taken f (h .extents) b (marks-given f (h .extents) (h .model) (h .frame) (beamMarks f (h .extents) b) g n (p .1))) })
+      let xs = marks-given f (h .extents) (h .model) (h .frame) (beamMarks f (h .extents) b) g n (p .1) in
+      (p .0, record { well-formed = tt; taken = hands-taken f (h .extents) (b ∷ []) (one-taken f (h .extents) b xs) })
 
   slice-good : (bs : List Beam) → updateBeamsEntry f h bs g .answer ≡ given n → Shown (slice bs)
   unfolding updateBeamsEntry
@@ -239,7 +240,8 @@ module _ (f : Format) (h : Head) (g : Grid) (p : tried h g ≡ none) where
       let told : Answer ℕ → Answer ℕ = λ a. andThen (andThen a (λ (n : ℕ). given (record { station = s .station; count = n }))) (λ (x : Swept). given (x .count)) in
       rw (p, q) (record { count = (d .count .0, ap told (d .count .1)); leaves = d .leaves })
 
-  mark-does : (occupied : Bool) (cell : List ℤ) → Taken (handMarks f (h .extents)) (by-hand occupied cell ∷ []) → Does f h (by-hand occupied cell ∷ []) g (changedOne (markEntry f occupied h cell g))
+  mark-does : (occupied : Bool) (cell : List ℤ) → Taken (handMarks f (h .extents)) (by-hand occupied cell ∷ [])
+      → Does f h (by-hand occupied cell ∷ []) g (changedOne (markEntry f occupied h cell g))
   unfolding markEntry marked
   mark-does occupied cell t = go (flatIndex (h .extents) cell) refl (t (by-hand occupied cell) (List·Memᴰ·head refl))
     where

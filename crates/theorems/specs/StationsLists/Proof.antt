@@ -1,7 +1,7 @@
 -- A night is one list of beams and marks, on the grid that `begin_scan` opened. So what demand 3 says of the marks of a list holds of what the calls leave.
 -- Assumes nothing.
 use mathlib.Core.Path.{_≡_, sym, ap, _∙_, subst}
-use mathlib.Core.List.{List, List·Memᴰ}
+use mathlib.Core.List.{List}
 use lib.Ieee.{Format}
 use Rattle.rules.specs.TheGridAndItsBounds.{Head, Grid}
 use Rattle.theorems.specs.DemandThree.{headOpened, gridOpened, Same, Opened, Ends}

@@ -88,7 +88,8 @@ handed f es [] = []
 handed f es (c ∷ cs) = handsOver f es c ++ handed f es cs
 
 -- ---- a night
--- after `begin_scan`, these calls: what the last one leaves, and that none is refused
+-- after `begin_scan`, which answers the head or leaves it where it was lent, these calls: what the last one leaves, and that none is refused. (What the entries
+-- check themselves is in this, the cuts, 15, among it: it is no premise of its own.)
 abbrev pub night : Format → Head → Grid → List Call → Grid
 night f h g cs = left f (headOpened h) cs (gridOpened h g)
 
