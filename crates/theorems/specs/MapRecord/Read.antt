@@ -15,7 +15,7 @@ use Rattle.rules.specs.MarksAndFrames.{openFrame}
 use Rattle.rules.specs.Fields.{fromLittleEndian, shortSize, wordSize, floatsIn, tagSize, headSize, fieldSize, field, contents}
 use Rattle.rules.specs.MapRecord.{extentsTag, extentsLength, extentsField, modelTag, modelLength, modelField, frameTag, frameLength, frameField, rowLength}
 use Rattle.rules.specs.MapRecord.{Stored, rowWidth, rowCount, rowsBytes, recordBytes, rowsOffset, recordOf, equalPairs, pairsChecked, recordSize, roomFor, writable}
-use Rattle.theorems.specs.MapRecord.Words.{IsByte, AreBytes, NotNan, NoNan, Held, first, Sound}
+use Rattle.theorems.specs.MapRecord.Words.{IsByte, AreBytes, NotNan, NoNan, Held, first, Sound, plainHead}
 use Rattle.theorems.specs.MapRecord.Each.{each-nil, each-cons, each-drop, all-three}
 use Rattle.theorems.specs.MapRecord.Bytes.{little-endian-again}
 use Rattle.theorems.specs.MapRecord.Numbers.{extents-in-length, extents-again, floats-in-length, floats-in-64, floats-again}
@@ -183,6 +183,10 @@ read-again axes bytes s e b =
 pub read-sound : (axes : ℕ) (bytes : List ℕ) (s : Stored) → 0 < axes → recordOf axes bytes ≡ given s → Sound axes bytes s
 read-sound axes bytes s some-axis e =
     let p = parts axes bytes s e in subst (λ (x : Stored). Sound axes bytes x) (p .end .is) (sound-of axes bytes s p some-axis)
+
+-- a record holds one pair and no cuts
+pub read-plain : (axes : ℕ) (bytes : List ℕ) (s : Stored) → recordOf axes bytes ≡ given s → plainHead (s .head) ≡ s .head
+read-plain axes bytes s e = subst (λ (x : Stored). plainHead (x .head) ≡ x .head) (parts axes bytes s e .end .is) refl
 
 -- the extents' field bears the length that the axes call for
 pub read-axes : (axes : ℕ) (bytes : List ℕ) (s : Stored) → recordOf axes bytes ≡ given s → fromLittleEndian shortSize (drop tagSize bytes) ≡ extentsLength axes
