@@ -1,5 +1,5 @@
 -- Theorems of every format and any number of axes, each with its statement, and the steps of its proof in the folder of its name. `StationsLists` is what the
--- chart's reader asked for; `CountBound`, `WholeSample`, `DemandThree` and `MapRecord` are laws of document 01; `OffAxes`, `SweepFile`, `CheckedSet`,
+-- chart's reader asked for; `CountBound`, `WholeSample`, `DemandThree`, `ZeroSign` and `MapRecord` are laws of document 01; `OffAxes`, `SweepFile`, `CheckedSet`,
 -- `ManySamples`, `EqualPairs`, `LayerChart`, `FloorCost`, `HandCorrections`, `VerticalBeam` and `SeasonReport` of change requests 1, 2, 3, 4, 6, 8, 9, 10, 11 and 12. `FlatList` is
 -- what several of them share.
 pub mod StationsLists
@@ -8,6 +8,7 @@ pub mod WholeSample
 pub mod DemandThree
 pub mod FloorCost
 pub mod EqualPairs
+pub mod ZeroSign
 pub mod HandCorrections
 pub mod CheckedSet
 pub mod OffAxes
