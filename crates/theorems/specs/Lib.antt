@@ -1,7 +1,7 @@
 -- Theorems of every format and any number of axes, each with its statement, and the steps of its proof in the folder of its name. `StationsLists` is what the
--- chart's reader asked for; `CountBound`, `WholeSample`, `DemandThree`, `ZeroSign` and `MapRecord` are laws of document 01; `OffAxes`, `SweepFile`, `CheckedSet`,
--- `ManySamples`, `EqualPairs`, `LayerChart`, `FloorCost`, `HandCorrections`, `VerticalBeam` and `SeasonReport` of change requests 1, 2, 3, 4, 6, 8, 9, 10, 11 and 12. `FlatList` is
--- what several of them share.
+-- chart's reader asked for; `CountBound`, `WholeSample`, `DemandThree`, `ZeroSign` and `MapRecord` are laws of document 01; `OffAxes`, `SweepFile`,
+-- `CheckedSet`, `ManySamples`, `EqualPairs`, `LayerChart` with `ChartCells`, `FloorCost`, `HandCorrections`, `VerticalBeam` and `SeasonReport` of change requests
+-- 1, 2, 3, 4, 6, 8, 9, 10, 11 and 12. `FlatList` is what several of them share.
 pub mod StationsLists
 pub mod CountBound
 pub mod WholeSample
@@ -14,6 +14,7 @@ pub mod CheckedSet
 pub mod OffAxes
 pub mod ManySamples
 pub mod LayerChart
+pub mod ChartCells
 pub mod SeasonReport
 pub mod MapRecord
 pub mod SweepFile
