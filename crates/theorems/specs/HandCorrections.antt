@@ -2,6 +2,8 @@
 -- another. Of every format and any number of axes. `HandCorrections.Proof` has the theorem. Definitions only.
 pub mod Places
 pub mod Sets
+pub mod CheckedSets
+pub mod EmptyFile
 pub mod Lists
 pub mod Sweeps
 pub mod FlatLists
@@ -10,18 +12,18 @@ pub mod Proof
 pub mod Examples
 use Prim.Native.Nat.{ℕ, _+_}
 use mathlib.Core.Path.{_≡_}
-use mathlib.Core.Bool.{Bool}
+use mathlib.Core.Bool.{Bool, false}
 use mathlib.Core.List.{List, [], _∷_, _++_}
 use lib.Dec.{T}
 use lib.IntN.{ℤ}
 use lib.ListN.{length}
-use lib.Ieee.{Float, Format}
+use lib.Ieee.{Float, Format, isNan}
 use Rattle.rules.specs.RefusalNumbers.{Refusal, Answer, given, refused, rayInList}
 use Rattle.rules.specs.RefusalNumbers.Entries.{Outcome, answered, headRefusal, usesOf, beams}
 use Rattle.rules.specs.RefusalNumbers.Entries.{resetEntry, beginScanEntry, markEntry, updateRayEntry, updateScanEntry, updateBeamsEntry, setLogOddsEntry, setLogOddsCheckedEntry}
 use Rattle.rules.specs.TheGridAndItsBounds.{Head, Grid}
 use Rattle.rules.specs.OneBeam.{Beam, flatShape}
-use Rattle.rules.specs.SweepFile.{updateSweepEntry}
+use Rattle.rules.specs.SweepFile.{Sweep, Swept, sweepOf, updateSweepEntry}
 use Rattle.rules.specs.VerticalBeam.{Vertical, updateVerticalEntry}
 
 -- ---- calls on one map
@@ -84,6 +86,14 @@ pub record Joined (p : ℕ) (first second both : Outcome ℕ Grid) : Type 0 wher
 abbrev pub nothingDone : Head → Grid → Outcome ℕ Grid
 nothingDone h g = record { answer = answered (headRefusal (usesOf beams) h (length (g .odds)) (length (g .stamps))) (given 0); lent = g }
 
+-- the same of a sweep file, which tells its station
+abbrev pub nothingSwept : ℕ → Head → Grid → Outcome Swept Grid
+nothingSwept station h g =
+    record {
+      answer = answered (headRefusal (usesOf beams) h (length (g .odds)) (length (g .stamps))) (given (record { station = station; count = 0 }));
+      lent = g;
+    }
+
 -- ---- the laws
 pub record HandCorrections (f : Format) : Type 0 where
   -- A second set on the same cell makes the first irrelevant: the answer, and the odds.
@@ -94,13 +104,22 @@ pub record HandCorrections (f : Format) : Type 0 where
       → setLogOddsEntry h d y (setLogOddsEntry h c x odds .lent) .lent ≡ setLogOddsEntry h c x (setLogOddsEntry h d y odds .lent) .lent
   pub set-answers-alone : (h : Head) (c d : List ℤ) (x y : Float) (odds : List Float)
       → setLogOddsEntry h d y (setLogOddsEntry h c x odds .lent) .answer ≡ setLogOddsEntry h d y odds .answer
+  -- The same of `set_log_odds_checked`; a second set that is refused, as NaN is, leaves the first.
+  pub second-checked : (h : Head) (cell : List ℤ) (x y : Float) (odds : List Float) → isNan y ≡ false
+      → setLogOddsCheckedEntry h cell y (setLogOddsCheckedEntry h cell x odds .lent) ≡ setLogOddsCheckedEntry h cell y odds
+  pub checked-exchanged : (h : Head) (c d : List ℤ) (x y : Float) (odds : List Float) → length c ≡ length (h .extents) → length d ≡ length (h .extents) → ¬ (c ≡ d)
+      → setLogOddsCheckedEntry h d y (setLogOddsCheckedEntry h c x odds .lent) .lent ≡ setLogOddsCheckedEntry h c x (setLogOddsCheckedEntry h d y odds .lent) .lent
+  pub checked-answers-alone : (h : Head) (c d : List ℤ) (x y : Float) (odds : List Float)
+      → setLogOddsCheckedEntry h d y (setLogOddsCheckedEntry h c x odds .lent) .answer ≡ setLogOddsCheckedEntry h d y odds .answer
   -- `reset` after any calls on one map answers what `reset` alone does; and where that is not refused, it leaves the same lists.
   pub reset-answers : (cs : List Call) (m : Map) → resetEntry (afterAll f cs m .head) (afterAll f cs m .grid) .answer ≡ resetEntry (m .head) (m .grid) .answer
   pub reset-alone : (cs : List Call) (m : Map) (k : Head) → resetEntry (m .head) (m .grid) .answer ≡ given k
       → resetEntry (afterAll f cs m .head) (afterAll f cs m .grid) ≡ resetEntry (m .head) (m .grid)
-  -- An empty list does nothing, as structs and as flat numbers.
+  -- An empty list does nothing, as structs, as flat numbers and as a sweep file.
   pub no-structs : (h : Head) (g : Grid) → updateBeamsEntry f h [] g ≡ nothingDone h g
   pub no-numbers : (h : Head) (g : Grid) → updateScanEntry f h [] [] g ≡ nothingDone h g
+  pub no-file : (h : Head) (bytes : List ℕ) (s : Sweep) (g : Grid) → sweepOf (length (h .extents)) bytes ≡ given s → s .beams ≡ []
+      → updateSweepEntry f h bytes g ≡ nothingSwept (s .station) h g
   -- One list after another in one sweep is the joined list: as structs, and as flat numbers where both lists are well formed.
   pub lists : (h : Head) (bs cs : List Beam) (g : Grid)
       → Joined (length bs) (updateBeamsEntry f h bs g) (updateBeamsEntry f h cs (updateBeamsEntry f h bs g .lent)) (updateBeamsEntry f h (bs ++ cs) g)

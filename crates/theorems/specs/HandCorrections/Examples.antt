@@ -4,10 +4,10 @@ use mathlib.Core.Path.{_≡_, refl}
 use mathlib.Core.Bool.{true}
 use mathlib.Core.List.{List, [], _∷_}
 use lib.IntN.{pos}
-use lib.Ieee.{Float, nan, binary64}
+use lib.Ieee.{Float, nan, binary64, isNan}
 use Rattle.rules.specs.Floats.{zeroF, halfF, oneF}
 use Rattle.rules.specs.RefusalNumbers.{given, refused, rayInList, badBuffer}
-use Rattle.rules.specs.RefusalNumbers.Entries.{Outcome, firstTooSmall, extentsRefusal, headRefusal, resetEntry, beginScanEntry, setLogOddsEntry, updateBeamsEntry}
+use Rattle.rules.specs.RefusalNumbers.Entries.{Outcome, firstTooSmall, extentsRefusal, headRefusal, resetEntry, beginScanEntry, setLogOddsEntry, setLogOddsCheckedEntry, updateBeamsEntry}
 use Rattle.rules.specs.TheGridAndItsBounds.{Head, Grid, freshGrid, rising, cutsBelow, cutsInBounds}
 use Rattle.rules.specs.MarksAndFrames.{setOdds}
 use Rattle.rules.specs.OneBeam.{Beam}
@@ -28,6 +28,10 @@ sent bs g = updateBeamsEntry binary64 head2 bs g
 -- cell 1, set to these odds
 abbrev set : Float → List Float → List Float
 set x odds = setLogOddsEntry head2 (pos 1 ∷ pos 0 ∷ []) x odds .lent
+
+-- the same, tried first
+abbrev checked : Float → List Float → List Float
+checked x odds = setLogOddsCheckedEntry head2 (pos 1 ∷ pos 0 ∷ []) x odds .lent
 
 -- no odds were lent, and the frame is the last: `begin_scan`, which uses no odds, zeroes the stamps
 abbrev short : Map
@@ -52,6 +56,10 @@ pub record Cases : Type 0 where
   pub one-cell :
       (set oneF (set halfF (fresh .odds)) ≡ zeroF ∷ oneF ∷ zeroF ∷ zeroF ∷ [])
       × (set halfF (set oneF (fresh .odds)) ≡ zeroF ∷ halfF ∷ zeroF ∷ zeroF ∷ [])
+  -- Checked, the later number counts; NaN is refused, and the number before it stays.
+  pub checked-cell :
+      (checked oneF (checked halfF (fresh .odds)) ≡ zeroF ∷ oneF ∷ zeroF ∷ zeroF ∷ [])
+      × (checked nan (checked halfF (fresh .odds)) ≡ zeroF ∷ halfF ∷ zeroF ∷ zeroF ∷ [])
   -- Where `reset` is refused, it leaves the stamps as they are: as lent, or as the calls before it left them.
   pub reset-refused :
       (resetOf short .answer ≡ refused badBuffer)
@@ -59,12 +67,13 @@ pub record Cases : Type 0 where
       × (resetOf (after binary64 open-scan short) .lent .stamps ≡ 0 ∷ 0 ∷ 0 ∷ 0 ∷ [])
 
 pub cases : Cases
-unfolding opened firstTooSmall extentsRefusal headRefusal resetEntry beginScanEntry setLogOddsEntry updateBeamsEntry setOdds freshGrid rising cutsBelow cutsInBounds
+unfolding opened firstTooSmall extentsRefusal headRefusal resetEntry beginScanEntry setLogOddsEntry setLogOddsCheckedEntry isNan updateBeamsEntry setOdds freshGrid rising cutsBelow cutsInBounds
 cases =
     record {
       counts-added = (refl, refl, refl);
       second-refused = (refl, refl);
       first-refused = (refl, refl);
       one-cell = (refl, refl);
+      checked-cell = (refl, refl);
       reset-refused = (refl, refl, refl);
     }
