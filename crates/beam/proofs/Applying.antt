@@ -10,7 +10,7 @@ use Rattle.rules.specs.RefusalNumbers.{given}
 use Rattle.rules.specs.RefusalNumbers.Entries.{Outcome}
 use Rattle.rules.specs.TheGridAndItsBounds.{Model, Grid}
 use Rattle.rules.specs.MarksAndFrames.{Mark, markAt, withCell, marked, changes, stepsAt}
-use Rattle.laws.specs.MarkLists.{marked-append, changes-append}
+use Rattle.beam.proofs.MarkLists.{marked-append, changes-append}
 use Rattle.laws.specs.Room.{room, room-set, mark-lowers}
 use Rattle.marks.specs.Marking.{gridOf, markOn, MarkedAt}
 use Rattle.beam.specs.Applying.{Applied, one}

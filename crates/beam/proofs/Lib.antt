@@ -3,3 +3,4 @@ pub mod Beaming
 pub mod InOrder
 pub mod Walking
 pub mod Following
+pub mod MarkLists

@@ -20,7 +20,7 @@ use Rattle.rules.specs.OneBeam.{markOf, marksAlong}
 use Rattle.laws.specs.Checks.{Ready}
 use Rattle.laws.specs.Following.{drawn-after}
 use Rattle.laws.specs.LineSteps.{lineAfter, lineEnded, goes-on, ends-here, marks-step, done, no-cells}
-use Rattle.laws.specs.MarkLists.{marked-odds, marked-stamps}
+use Rattle.beam.proofs.MarkLists.{marked-odds, marked-stamps}
 use Rattle.marks.specs.Marking.{gridOf}
 use Rattle.beam.specs.Applying.{Applied, one}
 use Rattle.beam.specs.Walking.{Walked, Begun}

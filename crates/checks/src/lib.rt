@@ -4,7 +4,7 @@ ghost use mathlib.Core.Bool.{not, _&&_};
 ghost use Rattle.rules.specs.RefusalNumbers.Entries.{extentsRefusal, headRefusal};
 ghost use Rattle.rules.specs.TheGridAndItsBounds.{fitsCapacity, bounded, cutsInBounds};
 ghost use Rattle.rules.specs.MarksAndFrames.{openFrame};
-ghost use Rattle.laws.specs.ModelBounds.{sizesBounded};
+ghost use Rattle.checks.specs.ModelBounds.{sizesBounded};
 ghost use Rattle.types.specs.Models.{modelOf, bandsOf};
 ghost use Rattle.types.specs.Points.{extents2, extents3};
 ghost use Rattle.checks.specs.Checking.{checkOf, usesOf, usedRefusal, headOf2, headOf3};

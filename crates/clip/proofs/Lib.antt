@@ -2,3 +2,4 @@ pub mod Passages
 pub mod Crossing
 pub mod Trying
 pub mod ByAxis
+pub mod OnTheMap

@@ -10,8 +10,8 @@ use lib.ListN.{length}
 use Rattle.rules.specs.Floats.{zeroF, oneF, allFinite}
 use Rattle.rules.specs.OneBeam.{Span, wholeSpan, Clipped, directions, slabs, allWithin, bothBeyond, isInside, clampPoint, pointAt, clippedAt, clip}
 use Rattle.laws.specs.Checks.{AxesInBounds}
-use Rattle.laws.specs.OnTheMap.{clip-uncut}
-use Rattle.laws.specs.OnTheMap.Coordinate.{all-finite}
+use Rattle.clip.proofs.OnTheMap.{clip-uncut}
+use Rattle.clip.proofs.OnTheMap.Coordinate.{all-finite}
 
 -- ---- what is left of a beam: b, p, q and i are what the code's calls answered
 module _ (f : Format) (es : List ℕ) (t : Float) (entry exit : List Float) {b : Bool} (asked : b ≡ bothBeyond f es entry exit) where

@@ -12,7 +12,7 @@ use borrow.Author.Tests.{lt-ltb, le-ltb}
 use Rattle.rules.specs.TheGridAndItsBounds.{Pair, Model, plainModel, floor, pairAt, layerOf, lastExtent, cutsInBounds}
 use Rattle.rules.specs.MarksAndFrames.{stepsAt}
 use Rattle.laws.specs.Checks.{InBounds}
-use Rattle.laws.specs.Bands.{below-cut, cuts-below}
+use Rattle.marks.proofs.BandLaws.{below-cut, cuts-below}
 
 module _ (ex ey ez : ℕ) (inside : InBounds (ex ∷ ey ∷ ez ∷ [])) where
   abbrev es : List ℕ

@@ -4,7 +4,7 @@ use borrow.Author.Needs.{needs}
 use lib.Ieee.{binary64}
 use Rattle.rules.specs.TheGridAndItsBounds.{pairBounded, allPairs, bounded}
 use Rattle.types.specs.Models.{modelOf}
-use Rattle.laws.specs.ModelBounds.{bounded-by-size}
+use Rattle.checks.specs.ModelBounds.{bounded-by-size}
 use Rattle.laws.specs.Literals.{zero-is}
 use Rattle.checks.proofs.is_bounded.Statement.{statement}
 use Rattle.checks.proofs.is_bounded.Tie as tie

@@ -1,6 +1,6 @@
 -- By the tests, at the code's largest size.
 use lib.Ieee.{binary64}
-use Rattle.laws.specs.ModelBounds.{sizesBounded}
+use Rattle.checks.specs.ModelBounds.{sizesBounded}
 use Rattle.laws.specs.Literals.{most-size-is}
 use Rattle.checks.proofs.sizes_bounded.Statement.{statement}
 use Rattle.checks.proofs.sizes_bounded.Tie as tie

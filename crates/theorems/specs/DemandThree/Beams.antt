@@ -15,7 +15,7 @@ use Rattle.rules.specs.TheGridAndItsBounds.{Model, Grid}
 use Rattle.rules.specs.MarksAndFrames.{Mark, marked, changes}
 use Rattle.rules.specs.OneBeam.{Beam, Integrated, beamMarks, integratedMarks, integratedBeam, integratedFrom, integrated, orStop}
 use Rattle.laws.specs.Floats.Tests.{or-cases, or-r}
-use Rattle.laws.specs.MarkLists.{marked-append}
+use Rattle.beam.proofs.MarkLists.{marked-append}
 use Rattle.theorems.specs.DemandThree.Orders.{anyCloud, anyMark, kindsOn}
 use Rattle.theorems.specs.DemandThree.{Makes, Hit, Touched}
 

@@ -14,7 +14,7 @@ use lib.Ieee.Exact.{HasValue}
 use Rattle.rules.specs.Floats.{zeroF}
 use Rattle.rules.specs.TheGridAndItsBounds.{Pair, Model, mostSize, pairBounded, bounded, floor}
 use Rattle.rules.specs.MarksAndFrames.{Steps, pairFor, stepsAt, freed}
-use Rattle.laws.specs.Bands.{pair-passes}
+use Rattle.marks.proofs.BandLaws.{pair-passes}
 use Rattle.laws.specs.Floats.Tests.{or-cases}
 use Rattle.theorems.specs.DemandThree.Dyadic.{Units, Signed, dif, at, dif-units, dif-sub, neg-units-are, units-val, lt-signed, le-signed}
 use Rattle.theorems.specs.DemandThree.Multiple.{many, negative, multiple-units, plus, less, own-value}

@@ -11,7 +11,7 @@ use Rattle.rules.specs.RefusalNumbers.Entries.{Outcome, unlessRefused, headRefu
 use Rattle.rules.specs.TheGridAndItsBounds.{Model, Head, Grid}
 use Rattle.rules.specs.MarksAndFrames.{Mark}
 use Rattle.rules.specs.OneBeam.{Beam, Integrated, integratedMarks, integratedBeam, beamMarks}
-use Rattle.laws.specs.MarkLists.{marked-odds, marked-stamps}
+use Rattle.beam.proofs.MarkLists.{marked-odds, marked-stamps}
 use Rattle.theorems.specs.HandCorrections.{Joined}
 use Rattle.theorems.specs.HandCorrections.Lists.{Ended, done, stopped, behind, Came, outcomeOf, andOn, whole-list, list-is, list-keeps, lists-joined}
 

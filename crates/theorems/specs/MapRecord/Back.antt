@@ -22,7 +22,7 @@ use Rattle.theorems.specs.MapRecord.Bytes.{little-endian-length, little-
 use Rattle.theorems.specs.MapRecord.Numbers.{extent-bytes-length, extents-back, float-bytes-length, floats-back}
 use Rattle.theorems.specs.MapRecord.Fields.{field-length, sound-given, field-back}
 use Rattle.theorems.specs.MapRecord.Rows.{rows-bytes-length, end-back, rows-back}
-use Rattle.laws.specs.Answers.{then-given}
+use Rattle.sweep_reader.proofs.Sound.{then-given}
 use Rattle.record_writer.proofs.Ceilings.{rows-by-ceiling}
 use Rattle.theorems.specs.MapRecord.Heads.{axes-few, extents-in-two-bytes, row-narrow, rows-are-cells, tests-of-writing}
 

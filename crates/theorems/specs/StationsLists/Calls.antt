@@ -11,7 +11,7 @@ use Rattle.rules.specs.RefusalNumbers.{Answer}
 use Rattle.rules.specs.RefusalNumbers.Entries.{headRefusal, usesOf, beams}
 use Rattle.rules.specs.TheGridAndItsBounds.{Head, Grid}
 use Rattle.rules.specs.MarksAndFrames.{Mark, marked}
-use Rattle.laws.specs.MarkLists.{marked-append, marked-odds, marked-stamps}
+use Rattle.beam.proofs.MarkLists.{marked-append, marked-odds, marked-stamps}
 use Rattle.theorems.specs.DemandThree.{Same}
 use Rattle.theorems.specs.DemandThree.Beams.{marksGiven, Taken, allMarks}
 use Rattle.theorems.specs.StationsLists.Words.{Call, outcome, left, Accepted, Handed, handMarks, handsOver, handed}

@@ -17,7 +17,7 @@ use Rattle.rules.specs.TheGridAndItsBounds.{Head, Grid, cells, onePerCell, last
 use Rattle.rules.specs.MarksAndFrames.{Cell, Mark, stepsAt, freed}
 use Rattle.rules.specs.LayerChart.{eighths, cutsIn, chartOf, firstNan, chartRefusal, charted, chartUses, layerChartEntry}
 use Rattle.laws.specs.Floats.Tests.{order}
-use Rattle.laws.specs.MarkLists.{marked-odds}
+use Rattle.beam.proofs.MarkLists.{marked-odds}
 use Rattle.theorems.specs.DemandThree.{headOpened, gridOpened, frameOpened, Makes, Hit, Touched, Same, Opened}
 use Rattle.theorems.specs.DemandThree.Beams.{allMarks, makes-same, hit-test, test-hit, touched-test, test-touched}
 use Rattle.theorems.specs.DemandThree.Orders.{anyCloud, anyMark, kindsOn}

@@ -20,7 +20,7 @@ use Rattle.rules.specs.MarksAndFrames.{Mark, changes, marked}
 use Rattle.rules.specs.OneBeam.{Beam, beamMarks, integratedMarks, integratedBeam, orStop, integratedFrom, integrated, flatShape, beamsOf}
 use Rattle.rules.specs.SweepFile.{Sweep, Swept, sweepOf, sweepAnswer, updateSweepEntry}
 use Rattle.rules.specs.VerticalBeam.{Vertical, inProfile, updateVerticalEntry}
-use Rattle.laws.specs.MarkLists.{marked-append}
+use Rattle.beam.proofs.MarkLists.{marked-append}
 use Rattle.theorems.specs.DemandThree.Beams.{marksGiven, Taken, allMarks, given-a-count, grid-is}
 use Rattle.theorems.specs.FlatList.{flat-as-structs}
 use Rattle.theorems.specs.VerticalBeam.{generalBeam}

@@ -18,7 +18,7 @@ use Rattle.theorems.specs.MapRecord.Each.{each-drop, both}
 use Rattle.theorems.specs.MapRecord.Bytes.{little-endian-again}
 use Rattle.theorems.specs.MapRecord.Numbers.{floats-again}
 use Rattle.theorems.specs.MapRecord.Fields.{Found, found, field-again}
-use Rattle.laws.specs.Answers.{then-given}
+use Rattle.sweep_reader.proofs.Sound.{then-given}
 use Rattle.sweep_reader.proofs.Sound.{sweep-given}
 use Rattle.sweep_writer.proofs.Written.{byte-again}
 use Rattle.theorems.specs.SweepFile.Words.{Every, NoNanIn}

@@ -23,7 +23,7 @@ use Rattle.laws.specs.Floats.Tests.{order}
 use Rattle.laws.specs.Floats.Sizes.{Signed, signed-round}
 use Rattle.laws.specs.Floats.Quotients.{ZeroOrLess, OneOrMore, not-crossed, no-smaller, signs-unlike}
 use Rattle.laws.specs.Floats.Differences.{difference, downward, zero-value}
-use Rattle.laws.specs.OnTheMap.{cut-to-whole}
+use Rattle.clip.proofs.OnTheMap.{cut-to-whole}
 use Rattle.theorems.specs.VerticalBeam.Halves.{half, mostHalves, half-value, no-halves, one-half, two-halves, number-halves, add-halves, sub-halves}
 use Rattle.theorems.specs.VerticalBeam.Halves.{mul-halves-zero, mul-halves-one, divides, lt-halves, eq-halves, le-halves, mag-halves, finite-halves}
 

@@ -5,7 +5,7 @@ use native.Mathlib.Nat.{zero-mul}
 use native.Mathlib.Omega.{arith}
 use lib.Dec.{eqb}
 use borrow.Author.Needs.{needs}
-use Rattle.laws.specs.Dividing.{quotient-decides, left-over}
+use Rattle.checks.proofs.Dividing.{quotient-decides, left-over}
 use Rattle.checks.proofs.counts.so_many_each.Statement.{statement}
 use Rattle.checks.proofs.counts.so_many_each.Tie as tie
 

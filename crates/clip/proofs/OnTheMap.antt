@@ -21,14 +21,14 @@ use Rattle.rules.specs.Floats.{zeroF, oneF, numberF, mag}
 use Rattle.rules.specs.TheGridAndItsBounds.{mostExtent}
 use Rattle.rules.specs.Coordinates.{within}
 use Rattle.rules.specs.OneBeam.{wholeSpan, largerOf, smallerOf, cutTo, slab, slabs, unlessMissed, directions, allWithin, pointAt, clippedAt, clip}
 use Rattle.laws.specs.Checks.{AxesInBounds}
 use Rattle.laws.specs.Floats.Tests.{order}
 use Rattle.laws.specs.Floats.Values.{scaled, lt-value, eq-value}
 use Rattle.laws.specs.Floats.Sizes.{AtMost, Signed, signed-round, mag-round, apart-most, extents-exact, number-value}
 use Rattle.laws.specs.Floats.Zeros.{isZero}
 use Rattle.laws.specs.Floats.Quotients.{OneOrMore, ZeroOrLess, Divides, not-above-zero, not-below-one, in-order, not-crossed, no-smaller, signs-unlike, of-zero}
 use Rattle.laws.specs.Floats.Differences.{upward, downward, even, difference, zero-value, not-zero}
-use Rattle.laws.specs.OnTheMap.Coordinate.{Placed, placed, at-most}
+use Rattle.clip.proofs.OnTheMap.Coordinate.{Placed, placed, at-most}
 
 -- ---- two fractions of a beam, one 0 or less and the other 1 or more, cut nothing off
 pub cut-to-whole : (near far : Float) → ZeroOrLess near → OneOrMore far → cutTo near far wholeSpan ≡ some wholeSpan
