@@ -1,3 +1,2 @@
-pub mod Injective
 pub mod Laws
 pub mod AxisLaws

@@ -1,2 +1,1 @@
-pub mod Injective
 pub mod Telling

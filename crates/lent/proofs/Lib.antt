@@ -5,7 +5,6 @@ pub mod Entering
 pub mod GiveUp
 pub mod Handed
 pub mod InSlice
-pub mod Injective
 pub mod Opening
 pub mod Pieces
 pub mod RawPart

@@ -1,5 +1,5 @@
 -- Laws of the rules' sample, over any number of axes: where the corners of a stencil stand, that each is a cell of the grid, and the
--- sample by its offsets and its corners. Last, that the maps of the code's corners are injective. Assumes nothing.
+-- sample by its offsets and its corners. Assumes nothing.
 use Prim.Native.Nat.{ℕ, _+_, _*_, _≤_, _<_}
 use mathlib.Core.Path.{_≡_, refl, sym, ap, _∙_, fun-ext}
 use mathlib.Core.Bool.{Bool, true, false, cond}
@@ -13,11 +13,7 @@ use Rattle.rules.specs.Floats.{zeroF}
 use Rattle.rules.specs.TheGridAndItsBounds.{leastExtent, allAtLeast, cells, strides, stridesFrom}
 use Rattle.rules.specs.Coordinates.{StencilAxis, stencilAxis, stencil, joined, cellsOf, offsetsOf, timesStrides, cornerPlace, corners}
 use Rattle.rules.specs.Coordinates.{valueFrom, gradientFrom, sampleAt}
-use Rattle.types.proofs.Injective.{Injective, of-back}
-use Rattle.sample.specs.declared.sample.Edge as Edges
-use Rattle.sample.specs.declared.sample.Square as Squares
-use Rattle.sample.specs.declared.sample.Cube as Cubes
-use Rattle.sample.specs.Sampling.{byBit, oddsFrom, total, highestCorner, Edge, Square, Cube, edgeOf, squareOf, cubeOf}
+use Rattle.sample.specs.Sampling.{byBit, oddsFrom, total, highestCorner}
 use Rattle.sample.proofs.StencilLaws.{cell-above, at-least-first, at-least-rest}
 
 -- ---- the last axis of a stencil, taken first
@@ -121,22 +117,3 @@ module _ (ex ey ez : ℕ) (a b c : StencilAxis) where
       ≡ oddsFrom odds (timesStrides (cellsOf (a ∷ b ∷ c ∷ [])) (strides (ex ∷ ey ∷ ez ∷ []))) (strides (ex ∷ ey ∷ ez ∷ []))
   unfolding strides stridesFrom timesStrides
   odds-three odds = simp (mul-one, one-mul, add-zero, ← add-assoc)
-
--- ---- each map of the code's corners is injective, so a contract that fixes what an answer stands for fixes the answer
-abbrev edge-back : Edge → Edges.Edge
-edge-back e = record { low = e .low; high = e .high }
-
-abbrev square-back : Square → Squares.Square
-square-back s = record { low = edge-back (s .low); high = edge-back (s .high) }
-
-abbrev cube-back : Cube → Cubes.Cube
-cube-back q = record { low = square-back (q .low); high = square-back (q .high) }
-
-pub edgeOf-injective : Injective edgeOf
-edgeOf-injective = of-back edgeOf edge-back (λ e. refl)
-
-pub squareOf-injective : Injective squareOf
-squareOf-injective = of-back squareOf square-back (λ s. refl)
-
-pub cubeOf-injective : Injective cubeOf
-cubeOf-injective = of-back cubeOf cube-back (λ q. refl)

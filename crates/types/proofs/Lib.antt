@@ -1,2 +1,0 @@
-pub mod Injective
-pub mod InjectiveAnswers
