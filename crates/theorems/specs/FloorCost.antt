@@ -1,4 +1,4 @@
--- What the floor costs: demand 3 without its premise about the floor. With multiples of the unit, a cloud cell ends, in every order of beams and with any
+-- What the floor costs: promise 3 without its premise about the floor. With multiples of the unit, a cloud cell ends, in every order of beams and with any
 -- repeats, no higher than a lone cloud vote would leave it, and lower by no more than one clear step. Definitions only; `FloorCost.Proof` has the theorem.
 pub mod Proof
 pub mod Examples
@@ -12,7 +12,7 @@ use Rattle.rules.specs.TheGridAndItsBounds.{Head, Grid, cells}
 use Rattle.rules.specs.MarksAndFrames.{Mark, stepsAt, cellAt}
 use Rattle.theorems.specs.DemandThree.{Hit, ofUnits, modelOfUnits, cloudAlone}
 
--- ---- the premises, beside those of a sweep (`DemandThree.Sweep`): demand 3's of its last sentence, but for the floor's
+-- ---- the premises, beside those of a sweep (`DemandThree.Sweep`): promise 3's of its last sentence, but for the floor's
 pub record InUnits (f : Format) (h : Head) (g : Grid) : Type 0 where
   -- The steps and the bounds are multiples of the unit, none above the largest size.
   pub model : T (modelOfUnits f (h .model))

@@ -1,6 +1,6 @@
 -- THE ORDER OF THE STATIONS' LISTS does not matter. A night is many calls: one station mails a file, another a list, an older one looks straight up, a keeper
 -- sends one beam again or marks a cell by hand. After `begin_scan`, where no call is refused, it matters which beams and marks were handed over: not in which
--- order, not how often, and not by which calls. `Words` has the calls and what they leave; demand 3's words are in `DemandThree`. Assumes nothing.
+-- order, not how often, and not by which calls. `Words` has the calls and what they leave; promise 3's words are in `DemandThree`. Assumes nothing.
 pub mod Words
 pub mod OneCall
 pub mod Calls
@@ -28,7 +28,7 @@ use Rattle.theorems.specs.StationsLists.Proof.{ends, costs, same-map, sa
 
 -- of any format, and of any map whose sweep is properly opened
 module _ (f : Format) (h : Head) (g : Grid) (o : Opened h g) where
-  -- Two lists exchanged, of whatever kinds: the second order is accepted where the first is, leaves the same stamps, and under the premises of demand 3's last
+  -- Two lists exchanged, of whatever kinds: the second order is accepted where the first is, leaves the same stamps, and under the premises of promise 3's last
   -- sentence the same odds.
   pub the-order-of-the-stations-lists : (first second : Call) → NoneRefused f h g (first ∷ second ∷ []) → AsGood f h g (first ∷ second ∷ []) (second ∷ first ∷ [])
   the-order-of-the-stations-lists first second =
@@ -47,7 +47,7 @@ module _ (f : Format) (h : Head) (g : Grid) (o : Opened h g) where
       → Same (handed f (h .extents) cs) (handed f (h .extents) ds) → SameMap f h g cs ds
   the-same-beams = same-map f h g o
 
-  -- Demand 3 of what the last call leaves: each cell ends as the beams and marks that were handed over say.
+  -- Promise 3 of what the last call leaves: each cell ends as the beams and marks that were handed over say.
   pub the-cells-at-the-end : (cs : List Call) → NoneRefused f h g cs → Ends f h g (handMarks f (h .extents)) (handed f (h .extents) cs) (night f h g cs)
   the-cells-at-the-end = ends f h g o
 
@@ -56,7 +56,7 @@ module _ (f : Format) (h : Head) (g : Grid) (o : Opened h g) where
   the-floor-at-the-end = costs f h g o
 
   -- THE CHART DOES NOT THICKEN. Two nights that hand over the same are charted alike, number for number and refusal for refusal, under the premises of
-  -- demand 3's last sentence.
+  -- promise 3's last sentence.
   pub the-same-chart : (cs ds : List Call) → NoneRefused f h g cs → NoneRefused f h g ds → Same (handed f (h .extents) cs) (handed f (h .extents) ds)
       → Multiples f h g → (chart : List ℕ) → layerChartEntry (headOpened h) (night f h g cs .odds) chart ≡ layerChartEntry (headOpened h) (night f h g ds .odds) chart
   the-same-chart cs ds a b e m chart = ap (λ (odds : List Float). layerChartEntry (headOpened h) odds chart) (the-same-beams cs ds a b e .odds m)

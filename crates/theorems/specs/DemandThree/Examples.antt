@@ -1,4 +1,4 @@
--- Demand 3 is not empty: a sweep of two beams on a map of two axes and on one of three, in both formats, that meets every premise.
+-- Promise 3 is not empty: a sweep of two beams on a map of two axes and on one of three, in both formats, that meets every premise.
 -- By computation of the definitions.
 use Prim.Native.Nat.{ℕ, _+_}
 use mathlib.Core.Bool.{true, false}

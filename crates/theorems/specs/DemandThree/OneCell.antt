@@ -1,4 +1,4 @@
--- One cell of demand 3's last sentence, from its premises: a clear mark that a cloud mark takes back leaves what the cloud mark alone would.
+-- One cell of promise 3's last sentence, from its premises: a clear mark that a cloud mark takes back leaves what the cloud mark alone would.
 -- Assumes nothing.
 use mathlib.Core.Path.{_≡_, refl, ap, _∙_, subst}
 use mathlib.Core.Logic.{_⊎_, inl, inr}
@@ -200,7 +200,7 @@ module _ (f : Format) (s : Steps) (O F C : ℕ) (u : StepUnits f s O F C) (o : F
       go (inl k) x = inl (omega (arith, on-floor k))
       go (inr k) x = inr (over-floor k)
 
--- DEMAND 3, of one cell
+-- PROMISE 3, of one cell
 pub exact : (f : Format) (m : Model) (i : ℕ) (o : Float) → T (bounded m) → T (modelOfUnits f m) → T (oddsWithin m o) → T (ofUnits f o)
     → T (clearOfFloor f (stepsAt m i) o) → takenBack f (stepsAt m i) (freed f (stepsAt m i) o) ≡ alone f (stepsAt m i) o
 unfolding oddsWithin clearOfFloor stepsAt

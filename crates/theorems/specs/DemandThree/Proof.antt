@@ -1,4 +1,4 @@
--- Demand 3, proved of the rules: in every format, on any number of axes, for every list of beams. Assumes nothing.
+-- Promise 3, proved of the rules: in every format, on any number of axes, for every list of beams. Assumes nothing.
 use mathlib.Core.Path.{_≡_, refl, sym, ap, ap₂, _∙_, subst}
 use mathlib.Core.Logic.{_⊎_, inl, inr}
 use mathlib.Core.List.{List, _∷_, List·Memᴰ, List·Memᴰ·head, List·Memᴰ·tail, List·Memᴰ·cases-cons}

@@ -151,7 +151,7 @@ module _ {A : Type 0} (f : Format) (h : Head) (g : Grid) (marksOf : A → Answer
         | inr q ↦ subst B (sym q) (hit-after-clear f (h .model) i o (p .model) (e .model) (p .within i l) (e .odds i l) (frameOpened h))
       ]
 
-  -- wherever cells end as demand 3 has it
+  -- wherever cells end as promise 3 has it
   pub ends-cost : FloorCost f h g marksOf bs after
   ends-cost = record { no-higher = λ i l w. hit-cell i l w .no-higher; one-clear-step = λ i l w. hit-cell i l w .one-clear-step }
 

@@ -1,4 +1,4 @@
--- The calls of a night, the beams and marks that they hand over, and what they leave: the words in which `StationsLists` is said, beside the rules' and demand 3's.
+-- The calls of a night, the beams and marks that they hand over, and what they leave: the words in which `StationsLists` is said, beside the rules' and promise 3's.
 -- Definitions only.
 use Prim.Native.Nat.{ℕ}
 use mathlib.Core.Path.{_≡_}
