@@ -22,7 +22,7 @@ nothing-followed f x c beyond within = absurd (omega arith)
 -- so two numbers are
 pub followed-not-one : (f : Format) (x : Float) → OneAnswer (λ c. Followed f c x) → ⊥
 followed-not-one f x one =
-    let same : _≡_ {A = ℕ} 1_048_577 1_048_578 = one 1_048_577 1_048_578 (nothing-followed f x 1_048_577 (omega arith)) (nothing-followed f x 1_048_578 (omega arith)) in
+    let same : _≡_ {A = ℕ} 4_097 4_098 = one 4_097 4_098 (nothing-followed f x 4_097 (omega arith)) (nothing-followed f x 4_098 (omega arith)) in
     omega arith
 
 -- to walk no step at all is allowed

@@ -185,3 +185,7 @@ Applied-one f xs m frame odds stamps a b p q = pair (p .count ∙ sym (q .count)
 pub Beamed-one : (i : Integrated) (frame : ℕ) (stamps : List ℕ)
     → OneAnswer (λ (a : CountAnswer × (List Float × List ℕ)). Beamed i frame stamps (a .0) (a .1 .0) (a .1 .1))
 Beamed-one i frame stamps a b p q = integratedOf-one i a b (p .is) (q .is)
+
+-- a fact of what is handed over, and nothing answered
+pub nothing-one : {Fact : Type 0} → OneAnswer (λ (t : Unit {0}). Fact)
+nothing-one a b p q = refl
