@@ -16,7 +16,7 @@ use Rattle.rules.specs.TheGridAndItsBounds.{Grid}
 use Rattle.rules.specs.Coordinates.{corners}
 use Rattle.rules.specs.TheLine.{Axis, deltas, increment}
 use Rattle.rules.specs.TheLine.{plotter}
-use Rattle.rules.specs.RefusalNumbers.Entries.{Outcome, resetEntry, markEntry}
+use Rattle.rules.specs.RefusalNumbers.Entries.{Outcome, resetEntry, beginScanEntry, markEntry}
 use Rattle.rules.specs.RefusalNumbers.Entries.{updateScanEntry, setLogOddsEntry, logOddsAtEntry}
 use Rattle.rules.specs.FiguresToTestOn.{plus, minus, point, cell, headOf, fresh, hitOn, lineOf, leaves, sampleOf, sampled, upTo3, lent, scanOf, containing, opened}
 
@@ -57,6 +57,12 @@ pub record OriginalAnswers : Type 0 where
   -- -0.0 is inside; an infinite coordinate is 6
   pub minus-zero-is-inside : containing minusZero ≡ given (cell 0 0)
   pub infinite-coordinate : containing (inf false) ≡ refused (nonFiniteCoordinate 0)
+  -- a near fraction of -0.0, where the original's `max` may give either zero: (10,0.5) to (9,0.5)
+  pub minus-zero-fraction :
+      hitOn 10 8 (point (plus 10 1) halfF) (point (plus 9 1) halfF) ≡ leaves 80 1 (replicate 9 zeroF ++ plus 3 4 ∷ []) (replicate 9 0 ++ 5 ∷ [])
+  -- any frame may be handed in: 0 opens 1
+  pub opened-from-frame-0 :
+      beginScanEntry (headOf 2 2 0) (4 ∷ 5 ∷ 0 ∷ 1 ∷ []) ≡ record { answer = given (headOf 2 2 1); lent = 4 ∷ 5 ∷ 0 ∷ 1 ∷ [] }
   -- two finite points whose difference overflows
   pub overflowing-beam :
       hitOn 10 8 (point (minus (10 ^ 308) 1) oneF) (point (plus (10 ^ 308) 1) oneF) ≡ record { answer = refused ray; lent = fresh 10 8 }
@@ -89,6 +95,8 @@ originalAnswers =
       corners-ascending = refl;
       minus-zero-is-inside = refl;
       infinite-coordinate = refl;
+      minus-zero-fraction = refl;
+      opened-from-frame-0 = refl;
       overflowing-beam = refl;
       refused-list = refl;
       mark-changes = refl;
