@@ -1,12 +1,13 @@
 /*
- * Every function of tembuzar.h but those of charts, in two axes and in three, each with what it is expected to answer in brackets.
- * The numbers in a call differ from each other, so that a field in the wrong place would show. chart.c and season.c call
- * those of charts.
+ * Every function of tembuzar.h but those of charts, in two axes and in three, each with what it is expected to answer
+ * in brackets. The numbers in a call differ from each other, so that a field in the wrong place would show. chart.c and
+ * season.c call those of charts.
  *
  * Build and run, from the repository's root on x86-64 Linux:
  *
  *     rt staticlib tembuzar && rt staticlib tembuzar_samples
- *     cc -O2 -Iinclude examples/every_entry.c target/staticlib/libtembuzar.a target/staticlib/libtembuzar_samples.a -o target/every_entry && target/every_entry
+ *     cc -O2 -Iinclude examples/every_entry.c target/staticlib/libtembuzar.a target/staticlib/libtembuzar_samples.a \
+ *         -o target/every_entry && target/every_entry
  */
 #include <math.h>
 #include <stdio.h>
@@ -31,9 +32,12 @@ static void samples_of_two_axes(tembuzar_map2 map)
     const tembuzar_point2 points[] = {{3.5, 0.75}, {4.5, 0.5}, {3.0, 1.0}};
     tembuzar_sample2 samples[] = {{7.0, {8.0, 9.0}}, {7.0, {8.0, 9.0}}, {7.0, {8.0, 9.0}}};
     uint8_t found[] = {9, 9, 9};
-    tembuzar_refusal r = tembuzar_sample_all_log_odds2(map, odds, CELLS, (const double *)points, 6, (double *)samples, 8, found, 3);
-    printf("sample_all   number %u, values %u, found %u, value %g [14, 0, 9, 7]\n", r.number, r.values, found[0], samples[0].value);
-    r = tembuzar_sample_all_log_odds2(map, odds, CELLS, (const double *)points, 6, (double *)samples, 9, found, 3);
+    const double *first = &points[0].x;
+    double *slots = &samples[0].value;
+    tembuzar_refusal r = tembuzar_sample_all_log_odds2(map, odds, CELLS, first, 6, slots, 8, found, 3);
+    printf("sample_all   number %u, values %u, found %u, value %g [14, 0, 9, 7]\n",
+           r.number, r.values, found[0], samples[0].value);
+    r = tembuzar_sample_all_log_odds2(map, odds, CELLS, first, 6, slots, 9, found, 3);
     printf("sample_all   number %u, found %u %u %u, values %g %g %g [0, 1 0 1, 1.4375 7 4]\n", r.number,
            found[0], found[1], found[2], samples[0].value, samples[1].value, samples[2].value);
     printf("             gradients (%g, %g) (%g, %g) (%g, %g) [(-2.875, 2.25) (8, 9) (-4, -4)]\n",
@@ -47,17 +51,18 @@ static void record_of_two_axes(tembuzar_map2 map)
     memset(bytes, 170, sizeof bytes);
     memset(stamps_read, 170, sizeof stamps_read);
     tembuzar_count_answer n = tembuzar_write_record2(map, odds, CELLS, bytes, BYTES - 1);
-    printf("write_record number %u, values %u, bytes %lu, first byte %u [11, 1, 216, 170]\n",
-           n.refusal.number, n.refusal.values, n.refusal.bytes, bytes[0]);
+    printf("write_record number %u, values %u, needed %lu, first byte %u [11, 1, 216, 170]\n",
+           n.refusal.number, n.refusal.values, n.refusal.needed, bytes[0]);
     n = tembuzar_write_record2(map, odds, CELLS, bytes, sizeof bytes);
     printf("write_record number %u, count %lu, extents %u %u, frame %u, end %u, next %u [0, 216, 5 4, 2, 5, 170]\n",
            n.refusal.number, n.count, bytes[3], bytes[5], bytes[37], bytes[BYTES - 3], bytes[BYTES]);
     tembuzar_map_answer2 m = tembuzar_read_record2(bytes, 100, odds_read, CELLS, stamps_read, CELLS);
-    printf("read_record  number %u, values %u, bytes %lu, odds %g, stamp %x [10, 1, 84, 0, aaaaaaaa]\n",
-           m.refusal.number, m.refusal.values, m.refusal.bytes, odds_read[11], stamps_read[11]);
+    printf("read_record  number %u, values %u, place %lu, odds %g, stamp %x [10, 1, 84, 0, aaaaaaaa]\n",
+           m.refusal.number, m.refusal.values, m.refusal.place, odds_read[11], stamps_read[11]);
     m = tembuzar_read_record2(bytes, BYTES, odds_read, CELLS, stamps_read, CELLS);
-    printf("read_record  number %u, %lu by %lu, model %g %g %g, frame %u [0, 5 by 4, 0.75 -0.5 4, 2]\n", m.refusal.number,
-           m.map.extents.x, m.map.extents.y, m.map.model.occupied, m.map.model.free, m.map.model.ceiling, m.map.frame);
+    printf("read_record  number %u, %lu by %lu, model %g %g %g, frame %u [0, 5 by 4, 0.75 -0.5 4, 2]\n",
+           m.refusal.number, m.map.extents.x, m.map.extents.y,
+           m.map.model.occupied, m.map.model.free, m.map.model.ceiling, m.map.frame);
     printf("             odds %g, all as written %d, stamp %x [0.75, 1, 0]\n",
            odds_read[11], memcmp(odds, odds_read, CELLS * sizeof *odds) == 0, stamps_read[11]);
 }
@@ -66,8 +71,9 @@ static void two_axes(void)
 {
     enum { CELLS = 5 * 4 };
     tembuzar_map_answer2 m = tembuzar_new2((tembuzar_extents2){5, 4}, model, odds, CELLS, stamps, CELLS);
-    printf("new          number %u, %lu by %lu, model %g %g %g, frame %u [0, 5 by 4, 0.75 -0.5 4, 1]\n", m.refusal.number,
-           m.map.extents.x, m.map.extents.y, m.map.model.occupied, m.map.model.free, m.map.model.ceiling, m.map.frame);
+    printf("new          number %u, %lu by %lu, model %g %g %g, frame %u [0, 5 by 4, 0.75 -0.5 4, 1]\n",
+           m.refusal.number, m.map.extents.x, m.map.extents.y,
+           m.map.model.occupied, m.map.model.free, m.map.model.ceiling, m.map.frame);
     m = tembuzar_begin_scan2(m.map, stamps, CELLS);
     printf("begin_scan   number %u, frame %u [0, 2]\n", m.refusal.number, m.map.frame);
     tembuzar_mark_answer k = tembuzar_mark_free2(m.map, odds, CELLS, stamps, CELLS, (tembuzar_cell2){1, 2});
@@ -135,7 +141,8 @@ static void lent_forms_of_two_axes(void)
            c.refusal.number, c.count, odds[17], odds[18], odds[19], odds[2], stamps[17], stamps[2]);
     tembuzar_open_scan2(&map, stamps, CELLS);
     c = tembuzar_update_beams2(map, odds, CELLS, stamps, CELLS, beams, 3);
-    printf("update_beams number %u, values %u, beam %lu, count so far %lu, count %lu, odds %g %g [7, 2, 2, 7, 0, 1.5 -1]\n",
+    printf("update_beams number %u, values %u, beam %lu, count so far %lu, count %lu, odds %g %g"
+           " [7, 2, 2, 7, 0, 1.5 -1]\n",
            c.refusal.number, c.refusal.values, c.refusal.place, c.refusal.count, c.count, odds[17], odds[2]);
     c = tembuzar_update_beams2(map, odds, CELLS, stamps, CELLS, NULL, 0);
     printf("update_beams number %u, count %lu [0, 0]\n", c.refusal.number, c.count);
@@ -147,14 +154,18 @@ static void samples_of_three_axes(tembuzar_map3 map)
     const tembuzar_point3 points[] = {{3.5, 0.75, 2.0}, {3.5, 0.75, 2.5}, {3.0, 1.0, 2.0}};
     tembuzar_sample3 samples[] = {{6.0, {7.0, 8.0, 9.0}}, {6.0, {7.0, 8.0, 9.0}}, {6.0, {7.0, 8.0, 9.0}}};
     uint8_t found[] = {9, 9, 9};
-    tembuzar_refusal r = tembuzar_sample_all_log_odds3(map, odds, CELLS, (const double *)points, 9, (double *)samples, 12, found, 2);
-    printf("sample_all   number %u, values %u, found %u, value %g [14, 0, 9, 6]\n", r.number, r.values, found[0], samples[0].value);
-    r = tembuzar_sample_all_log_odds3(map, odds, CELLS, (const double *)points, 9, (double *)samples, 12, found, 3);
+    const double *first = &points[0].x;
+    double *slots = &samples[0].value;
+    tembuzar_refusal r = tembuzar_sample_all_log_odds3(map, odds, CELLS, first, 9, slots, 12, found, 2);
+    printf("sample_all   number %u, values %u, found %u, value %g [14, 0, 9, 6]\n",
+           r.number, r.values, found[0], samples[0].value);
+    r = tembuzar_sample_all_log_odds3(map, odds, CELLS, first, 9, slots, 12, found, 3);
     printf("sample_all   number %u, found %u %u %u, values %g %g %g [0, 1 0 1, 1.5 6 4]\n", r.number,
            found[0], found[1], found[2], samples[0].value, samples[1].value, samples[2].value);
     printf("             gradients (%g, %g, %g) (%g, %g, %g) (%g, %g, %g) [(-3, 2, 1.5625) (7, 8, 9) (-4, -4, 4)]\n",
-           samples[0].gradient.x, samples[0].gradient.y, samples[0].gradient.z, samples[1].gradient.x, samples[1].gradient.y,
-           samples[1].gradient.z, samples[2].gradient.x, samples[2].gradient.y, samples[2].gradient.z);
+           samples[0].gradient.x, samples[0].gradient.y, samples[0].gradient.z,
+           samples[1].gradient.x, samples[1].gradient.y, samples[1].gradient.z,
+           samples[2].gradient.x, samples[2].gradient.y, samples[2].gradient.z);
 }
 
 static void sweep_file_of_two_axes(void)
@@ -165,16 +176,18 @@ static void sweep_file_of_two_axes(void)
     const uint8_t hits[] = {1, 0};
     memset(bytes, 170, sizeof bytes);
     tembuzar_count_answer n = tembuzar_write_sweep2(40000, beams, 7, hits, 2, bytes, sizeof bytes);
-    printf("write_sweep  number %u, values %u, first byte %u [8, 0, 170]\n", n.refusal.number, n.refusal.values, bytes[0]);
+    printf("write_sweep  number %u, values %u, first byte %u [8, 0, 170]\n",
+           n.refusal.number, n.refusal.values, bytes[0]);
     n = tembuzar_write_sweep2(40000, beams, 8, hits, 2, bytes, BYTES - 1);
-    printf("write_sweep  number %u, values %u, bytes %lu, first byte %u [11, 1, 88, 170]\n",
-           n.refusal.number, n.refusal.values, n.refusal.bytes, bytes[0]);
+    printf("write_sweep  number %u, values %u, needed %lu, first byte %u [11, 1, 88, 170]\n",
+           n.refusal.number, n.refusal.values, n.refusal.needed, bytes[0]);
     n = tembuzar_write_sweep2(40000, beams, 8, hits, 2, bytes, sizeof bytes);
-    printf("write_sweep  number %u, count %lu, axes %u, station %u %u, hits %u %u, beams %u, next %u [0, 88, 2, 64 156, 1 0, 2, 170]\n",
+    printf("write_sweep  number %u, count %lu, axes %u, station %u %u, hits %u %u, beams %u, next %u"
+           " [0, 88, 2, 64 156, 1 0, 2, 170]\n",
            n.refusal.number, n.count, bytes[3], bytes[7], bytes[8], bytes[44], bytes[80], bytes[84], bytes[BYTES]);
     tembuzar_sweep_answer s = tembuzar_update_sweep2(map, odds, CELLS, stamps, CELLS, bytes, BYTES + 1);
-    printf("update_sweep number %u, values %u, bytes %lu, station %u, count %lu, odds %g [12, 1, 88, 0, 0, 0]\n",
-           s.refusal.number, s.refusal.values, s.refusal.bytes, s.station, s.count, odds[17]);
+    printf("update_sweep number %u, values %u, place %lu, station %u, count %lu, odds %g [12, 1, 88, 0, 0, 0]\n",
+           s.refusal.number, s.refusal.values, s.refusal.place, s.station, s.count, odds[17]);
     s = tembuzar_update_sweep2(map, odds, CELLS, stamps, CELLS, bytes, BYTES);
     printf("update_sweep number %u, station %u, count %lu, odds %g %g %g %g [0, 40000, 7, 0.75 -0.5 -0.5 -0.5]\n",
            s.refusal.number, s.station, s.count, odds[17], odds[18], odds[19], odds[2]);
@@ -187,18 +200,19 @@ static void record_of_three_axes(tembuzar_map3 map)
     memset(odds_read, 0, sizeof odds_read);
     memset(stamps_read, 170, sizeof stamps_read);
     tembuzar_count_answer n = tembuzar_write_record3(map, odds, CELLS, bytes, BYTES - 1);
-    printf("write_record number %u, values %u, bytes %lu, first byte %u [11, 1, 562, 170]\n",
-           n.refusal.number, n.refusal.values, n.refusal.bytes, bytes[0]);
+    printf("write_record number %u, values %u, needed %lu, first byte %u [11, 1, 562, 170]\n",
+           n.refusal.number, n.refusal.values, n.refusal.needed, bytes[0]);
     n = tembuzar_write_record3(map, odds, CELLS, bytes, sizeof bytes);
-    printf("write_record number %u, count %lu, extents %u %u %u, frame %u, end %u, next %u [0, 562, 5 4 3, 2, 5, 170]\n",
+    printf("write_record number %u, count %lu, extents %u %u %u, frame %u, end %u, next %u"
+           " [0, 562, 5 4 3, 2, 5, 170]\n",
            n.refusal.number, n.count, bytes[3], bytes[5], bytes[7], bytes[39], bytes[BYTES - 3], bytes[BYTES]);
     tembuzar_map_answer3 m = tembuzar_read_record3(bytes, 100, bands.cuts, odds_read, CELLS, stamps_read, CELLS);
-    printf("read_record  number %u, values %u, bytes %lu, odds %g, stamp %x [10, 1, 86, 0, aaaaaaaa]\n",
-           m.refusal.number, m.refusal.values, m.refusal.bytes, odds_read[11], stamps_read[11]);
+    printf("read_record  number %u, values %u, place %lu, odds %g, stamp %x [10, 1, 86, 0, aaaaaaaa]\n",
+           m.refusal.number, m.refusal.values, m.refusal.place, odds_read[11], stamps_read[11]);
     m = tembuzar_read_record3(bytes, BYTES, bands.cuts, odds_read, CELLS, stamps_read, CELLS);
     printf("read_record  number %u, %lu by %lu by %lu, model %g %g %g, frame %u [0, 5 by 4 by 3, 0.75 -0.5 4, 2]\n",
-           m.refusal.number,
-           m.map.extents.x, m.map.extents.y, m.map.extents.z, m.map.bands.low.occupied, m.map.bands.low.free, m.map.bands.ceiling, m.map.frame);
+           m.refusal.number, m.map.extents.x, m.map.extents.y, m.map.extents.z,
+           m.map.bands.low.occupied, m.map.bands.low.free, m.map.bands.ceiling, m.map.frame);
     printf("             odds %g, all as written %d, stamp %x [0.75, 1, 0]\n",
            odds_read[11], memcmp(odds, odds_read, CELLS * sizeof *odds) == 0, stamps_read[11]);
 }
@@ -208,8 +222,8 @@ static void three_axes(void)
     enum { CELLS = 5 * 4 * 3 };
     tembuzar_map_answer3 m = tembuzar_new3((tembuzar_extents3){5, 4, 3}, bands, odds, CELLS, stamps, CELLS);
     printf("new          number %u, %lu by %lu by %lu, model %g %g %g, frame %u [0, 5 by 4 by 3, 0.75 -0.5 4, 1]\n",
-           m.refusal.number,
-           m.map.extents.x, m.map.extents.y, m.map.extents.z, m.map.bands.low.occupied, m.map.bands.low.free, m.map.bands.ceiling, m.map.frame);
+           m.refusal.number, m.map.extents.x, m.map.extents.y, m.map.extents.z,
+           m.map.bands.low.occupied, m.map.bands.low.free, m.map.bands.ceiling, m.map.frame);
     m = tembuzar_begin_scan3(m.map, stamps, CELLS);
     printf("begin_scan   number %u, frame %u [0, 2]\n", m.refusal.number, m.map.frame);
     tembuzar_mark_answer k = tembuzar_mark_free3(m.map, odds, CELLS, stamps, CELLS, (tembuzar_cell3){1, 2, 0});
@@ -244,7 +258,8 @@ static void three_axes(void)
            s.sample.value, s.sample.gradient.x, s.sample.gradient.y, s.sample.gradient.z);
     samples_of_three_axes(m.map);
     tembuzar_cell_answer3 c = tembuzar_cell_containing3(m.map, (tembuzar_point3){4.75, 1.5, 2.25});
-    printf("containing   number %u, cell (%ld, %ld, %ld) [0, (4, 1, 2)]\n", c.refusal.number, c.cell.x, c.cell.y, c.cell.z);
+    printf("containing   number %u, cell (%ld, %ld, %ld) [0, (4, 1, 2)]\n",
+           c.refusal.number, c.cell.x, c.cell.y, c.cell.z);
     tembuzar_line_answer3 l = tembuzar_plotter3((tembuzar_point3){0.5, 0.5, 2.5}, (tembuzar_point3){-1.5, 1.5, 2.5});
     printf("plotter      number %u, primary %lu, remaining %lu [0, 0, 3]\nstep        ",
            l.refusal.number, l.line.primary, l.line.remaining);
@@ -263,8 +278,9 @@ static void lent_forms_of_three_axes(void)
     enum { CELLS = 5 * 4 * 3 };
     tembuzar_map3 map = tembuzar_new3((tembuzar_extents3){5, 4, 3}, bands, odds, CELLS, stamps, CELLS).map;
     tembuzar_refusal r = tembuzar_open_scan3(&map, stamps, CELLS);
-    printf("open_scan    number %u, %lu by %lu by %lu, model %g %g %g, frame %u [0, 5 by 4 by 3, 0.75 -0.5 4, 2]\n", r.number,
-           map.extents.x, map.extents.y, map.extents.z, map.bands.low.occupied, map.bands.low.free, map.bands.ceiling, map.frame);
+    printf("open_scan    number %u, %lu by %lu by %lu, model %g %g %g, frame %u [0, 5 by 4 by 3, 0.75 -0.5 4, 2]\n",
+           r.number, map.extents.x, map.extents.y, map.extents.z,
+           map.bands.low.occupied, map.bands.low.free, map.bands.ceiling, map.frame);
     r = tembuzar_open_scan3(&map, stamps, CELLS - 1);
     printf("open_scan    number %u, frame %u [4, 2]\n", r.number, map.frame);
     const tembuzar_beam3 beams[] = {
@@ -277,7 +293,8 @@ static void lent_forms_of_three_axes(void)
            c.refusal.number, c.count, odds[57], odds[58], odds[59], odds[22], stamps[57], stamps[22]);
     tembuzar_open_scan3(&map, stamps, CELLS);
     c = tembuzar_update_beams3(map, odds, CELLS, stamps, CELLS, beams, 3);
-    printf("update_beams number %u, values %u, beam %lu, count so far %lu, count %lu, odds %g %g [7, 2, 2, 7, 0, 1.5 -1]\n",
+    printf("update_beams number %u, values %u, beam %lu, count so far %lu, count %lu, odds %g %g"
+           " [7, 2, 2, 7, 0, 1.5 -1]\n",
            c.refusal.number, c.refusal.values, c.refusal.place, c.refusal.count, c.count, odds[57], odds[22]);
     c = tembuzar_update_beams3(map, odds, CELLS, stamps, CELLS, NULL, 0);
     printf("update_beams number %u, count %lu [0, 0]\n", c.refusal.number, c.count);
@@ -312,18 +329,19 @@ static void sweep_file_of_three_axes(void)
     const uint8_t hits[] = {1, 0};
     memset(bytes, 170, sizeof bytes);
     tembuzar_count_answer n = tembuzar_write_sweep3(40000, beams, 12, hits, 2, bytes, BYTES - 1);
-    printf("write_sweep  number %u, values %u, bytes %lu, first byte %u [11, 1, 120, 170]\n",
-           n.refusal.number, n.refusal.values, n.refusal.bytes, bytes[0]);
+    printf("write_sweep  number %u, values %u, needed %lu, first byte %u [11, 1, 120, 170]\n",
+           n.refusal.number, n.refusal.values, n.refusal.needed, bytes[0]);
     n = tembuzar_write_sweep3(40000, beams, 12, hits, 2, bytes, sizeof bytes);
-    printf("write_sweep  number %u, count %lu, axes %u, station %u %u, hits %u %u, beams %u, next %u [0, 120, 3, 64 156, 1 0, 2, 170]\n",
+    printf("write_sweep  number %u, count %lu, axes %u, station %u %u, hits %u %u, beams %u, next %u"
+           " [0, 120, 3, 64 156, 1 0, 2, 170]\n",
            n.refusal.number, n.count, bytes[3], bytes[7], bytes[8], bytes[60], bytes[112], bytes[116], bytes[BYTES]);
     tembuzar_sweep_answer s = tembuzar_update_sweep3(map, odds, CELLS, stamps, CELLS, bytes, BYTES);
     printf("update_sweep number %u, station %u, count %lu, odds %g %g %g %g [0, 40000, 7, 0.75 -0.5 -0.5 -0.5]\n",
            s.refusal.number, s.station, s.count, odds[57], odds[58], odds[59], odds[22]);
     bytes[112] = 2;
     s = tembuzar_update_sweep3(map, odds, CELLS, stamps, CELLS, bytes, BYTES);
-    printf("update_sweep number %u, values %u, bytes %lu, station %u, count %lu [12, 1, 61, 0, 0]\n",
-           s.refusal.number, s.refusal.values, s.refusal.bytes, s.station, s.count);
+    printf("update_sweep number %u, values %u, place %lu, station %u, count %lu [12, 1, 61, 0, 0]\n",
+           s.refusal.number, s.refusal.values, s.refusal.place, s.station, s.count);
 }
 
 /* Each band has its own steps. */
@@ -343,7 +361,7 @@ static void three_bands(void)
         tembuzar_mark_occupied3(map, odds, CELLS, stamps, CELLS, (tembuzar_cell3){1, 2, z});
     printf("             occupied %g %g %g [0.75 0.5 0.25]\n", odds[11], odds[31], odds[51]);
     tembuzar_count_answer n = tembuzar_write_record3(map, odds, CELLS, bytes, sizeof bytes);
-    printf("write_record number %u, bytes %lu [10, 9]\n", n.refusal.number, n.refusal.bytes);
+    printf("write_record number %u, place %lu [10, 9]\n", n.refusal.number, n.refusal.place);
     unequal.cuts.second = 3;
     m = tembuzar_new3((tembuzar_extents3){5, 4, 3}, unequal, odds, CELLS, stamps, CELLS);
     printf("new          number %u, odds %g [15, 0.75]\n", m.refusal.number, odds[11]);

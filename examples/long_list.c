@@ -1,13 +1,15 @@
 /*
- * How much stack a list of beams takes: 10,000 beams and 1,000,000, in two axes and in three. Each list is handed over in one call, by a
- * thread whose stack is 64 KB beyond the least that the system allows. The stack is filled with a pattern first; afterwards, what has
- * lost the pattern has been used. It is the same for both lists: it depends on what beams do, all of which is among the 10,000, and not on how
- * many there are.
+ * How much stack a list of beams takes: 10,000 beams and 1,000,000, in two axes and in three. Each list is handed over
+ * in one call, by a thread whose stack is 64 KB beyond the least that the system allows. The stack is filled with a
+ * pattern first; afterwards, what has lost the pattern has been used. It is the same for both lists: it depends on what
+ * beams do, all of which is among the 10,000, and not on how many there are. How many bytes that are differs from
+ * machine to machine, and is written to standard error.
  *
  * Build and run, from the repository's root on x86-64 Linux:
  *
  *     rt staticlib tembuzar
- *     cc -O2 -pthread -Iinclude examples/long_list.c target/staticlib/libtembuzar.a -o target/long_list && target/long_list
+ *     cc -O2 -pthread -Iinclude examples/long_list.c target/staticlib/libtembuzar.a -o target/long_list
+ *     target/long_list
  */
 #define _GNU_SOURCE
 #include <limits.h>
@@ -33,19 +35,26 @@ struct call {
 };
 
 static const tembuzar_model model = {.occupied = 0.75, .free = -0.5, .ceiling = 4.0};
-static const tembuzar_bands bands = {
-    .low = {0.75, -0.5}, .middle = {0.75, -0.5}, .high = {0.75, -0.5}, .ceiling = 4.0, .cuts = {SIDE / 3, 2 * SIDE / 3}};
+static const tembuzar_extents2 square = {SIDE, SIDE};
+static const tembuzar_extents3 cube = {SIDE, SIDE, SIDE};
+static const tembuzar_bands bands = {.low = {0.75, -0.5},
+                                     .middle = {0.75, -0.5},
+                                     .high = {0.75, -0.5},
+                                     .ceiling = 4.0,
+                                     .cuts = {SIDE / 3, 2 * SIDE / 3}};
 
 static void *hand_over(void *p)
 {
     struct call *c = p;
     size_t cells = c->axes == 2 ? SIDE * SIDE : SIDE * SIDE * SIDE;
     if (c->axes == 2) {
-        tembuzar_map2 map = tembuzar_new2((tembuzar_extents2){SIDE, SIDE}, model, c->odds, cells, c->stamps, cells).map;
-        c->answer = tembuzar_update_scan2(map, c->odds, cells, c->stamps, cells, c->numbers, 4 * c->beams, c->hits, c->beams);
+        tembuzar_map2 map = tembuzar_new2(square, model, c->odds, cells, c->stamps, cells).map;
+        c->answer = tembuzar_update_scan2(map, c->odds, cells, c->stamps, cells,
+                                          c->numbers, 4 * c->beams, c->hits, c->beams);
     } else {
-        tembuzar_map3 map = tembuzar_new3((tembuzar_extents3){SIDE, SIDE, SIDE}, bands, c->odds, cells, c->stamps, cells).map;
-        c->answer = tembuzar_update_scan3(map, c->odds, cells, c->stamps, cells, c->numbers, 6 * c->beams, c->hits, c->beams);
+        tembuzar_map3 map = tembuzar_new3(cube, bands, c->odds, cells, c->stamps, cells).map;
+        c->answer = tembuzar_update_scan3(map, c->odds, cells, c->stamps, cells,
+                                          c->numbers, 6 * c->beams, c->hits, c->beams);
     }
     return NULL;
 }
@@ -85,15 +94,19 @@ int main(void)
         numbers[i] = (double)(seed >> 16) / 65536.0 * 24.0 - 4.0;
         hits[i % most] = (uint8_t)(seed >> 31);
     }
-    printf("a thread's stack of %zu bytes\n", size);
+    fprintf(stderr, "a thread's stack of %zu bytes\n", size);
     for (int axes = 2; axes <= 3; axes++) {
+        size_t of_the_short_list = 0;
         for (size_t beams = 10000; beams <= most; beams *= most / 10000) {
             struct call c = {axes, beams, numbers, hits, odds, stamps, {{0}, 0}};
             if (beams == 10000)
                 hand_over(&c); /* here first, since the loader takes stack at the first call of memset and memcpy */
             size_t used = stack_used(&c, size);
-            printf("%d axes, %7zu beams: number %u, count %llu, stack used %zu bytes\n", axes, beams,
-                   (unsigned)c.answer.refusal.number, (unsigned long long)c.answer.count, used);
+            if (beams == 10000)
+                of_the_short_list = used;
+            printf("%d axes, %7zu beams: number %u, count %llu, as much stack as 10000 beams: %d\n", axes, beams,
+                   (unsigned)c.answer.refusal.number, (unsigned long long)c.answer.count, used == of_the_short_list);
+            fprintf(stderr, "%d axes, %7zu beams: stack used %zu bytes\n", axes, beams, used);
         }
     }
     return 0;

@@ -1,12 +1,15 @@
 /*
- * How much stack and how much time a record takes: maps of 64 by 64, 1,024 by 1,024 and 4,096 by 4,096 cells, the largest that there is, each
- * written and read again. Each call is made by a thread whose stack is 64 KB beyond the least that the system allows. The stack is filled with a
- * pattern first; afterwards, what has lost the pattern has been used. It is the same for all three; the time for a byte is printed beside it.
+ * How much stack and how much time a record takes: maps of 64 by 64, 1,024 by 1,024 and 4,096 by 4,096 cells, the
+ * largest that there is, each written and read again. Each call is made by a thread whose stack is 64 KB beyond the
+ * least that the system allows. The stack is filled with a pattern first; afterwards, what has lost the pattern has
+ * been used. It is the same for all three. How many bytes that are, and the time for a byte of the record, differ from
+ * machine to machine, and are written to standard error.
  *
  * Build and run, from the repository's root on x86-64 Linux:
  *
  *     rt staticlib tembuzar
- *     cc -O2 -pthread -Iinclude examples/long_record.c target/staticlib/libtembuzar.a -o target/long_record && target/long_record
+ *     cc -O2 -pthread -Iinclude examples/long_record.c target/staticlib/libtembuzar.a -o target/long_record
+ *     target/long_record
  */
 #define _GNU_SOURCE
 #include <limits.h>
@@ -83,8 +86,9 @@ int main(void)
     memset(odds, 0, most * sizeof *odds);
     memset(stamps, 0, most * sizeof *stamps);
     memset(bytes, 0, room);
-    printf("a thread's stack of %zu bytes\n", size);
+    fprintf(stderr, "a thread's stack of %zu bytes\n", size);
     static const size_t sides[] = {64, 1024, MOST};
+    size_t of_the_small_map[2] = {0, 0};
     for (int i = 0; i < 3; i++) {
         size_t side = sides[i], cells = side * side, count = 44 + side * (3 + 8 * side);
         tembuzar_map2 map = {{side, side}, {0.75, -0.5, 4.0}, 1};
@@ -93,8 +97,12 @@ int main(void)
             if (i == 0)
                 hand_over(&c); /* here first, since the loader takes stack at the first call of a function of libc */
             size_t used = stack_used(&c, size);
-            printf("%4zu by %4zu, %s %9zu bytes: number %u, stack used %zu bytes, %.1f ns a byte\n", side, side,
-                   reads ? "read " : "wrote", count, (unsigned)c.number, used, 1e9 * c.seconds / (double)count);
+            if (i == 0)
+                of_the_small_map[reads] = used;
+            printf("%4zu by %4zu, %s %9zu bytes: number %u, as much stack as 64 by 64: %d\n", side, side,
+                   reads ? "read " : "wrote", count, (unsigned)c.number, used == of_the_small_map[reads]);
+            fprintf(stderr, "%4zu by %4zu, %s: stack used %zu bytes, %.1f ns a byte\n", side, side,
+                    reads ? "read " : "wrote", used, 1e9 * c.seconds / (double)count);
         }
     }
     return 0;

@@ -45,7 +45,7 @@ static void picture(void)
 static void say(const char *call, tembuzar_refusal r)
 {
     static const char *const names[] = {"answered", "DimensionTooSmall", "CapacityOverflow", "Model", "Buffer",
-                                        "OutOfBounds", "NonFiniteCoordinate", "Ray", "Beams", "Frame", "Record", "Room", "Sweep"};
+                                        "OutOfBounds", "NonFiniteCoordinate", "Ray", "Beams", "Frame"};
     printf("%-34s %2u %s", call, (unsigned)r.number, names[r.number]);
     if (r.number == 1 || r.number == 5 || r.number == 6)
         printf(", axis %llu", (unsigned long long)r.axis);
@@ -103,9 +103,11 @@ static void refused(tembuzar_map2 map)
     say("set odds of cell (3, 8):", tembuzar_set_log_odds2(map, odds, CELLS, cell, 1.0));
     say("cell that contains (10, 4):", tembuzar_cell_containing2(map, (tembuzar_point2){10.0, 4.0}).refusal);
     say("cell that contains (1, NaN):", tembuzar_cell_containing2(map, (tembuzar_point2){1.0, NAN}).refusal);
-    say("second of two beams to infinity:", tembuzar_update_scan2(map, odds, CELLS, stamps, CELLS, far, 8, hits, 2).refusal);
+    say("second of two beams to infinity:",
+        tembuzar_update_scan2(map, odds, CELLS, stamps, CELLS, far, 8, hits, 2).refusal);
     say("line to infinity:", tembuzar_plotter2((tembuzar_point2){0, 0}, (tembuzar_point2){0, INFINITY}).refusal);
-    say("seven numbers for two beams:", tembuzar_update_scan2(map, odds, CELLS, stamps, CELLS, far, 7, hits, 2).refusal);
+    say("seven numbers for two beams:",
+        tembuzar_update_scan2(map, odds, CELLS, stamps, CELLS, far, 7, hits, 2).refusal);
     say("marked at frame 0:", tembuzar_mark_free2(early, odds, CELLS, stamps, CELLS, (tembuzar_cell2){3, 3}).refusal);
     say("an empty list (NULL, 0):", tembuzar_update_scan2(map, odds, CELLS, stamps, CELLS, NULL, 0, NULL, 0).refusal);
 }

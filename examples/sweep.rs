@@ -5,8 +5,8 @@
 //     rt staticlib tembuzar
 //     rustc -O examples/sweep.rs -L target/staticlib -l static=tembuzar -o target/sweep_rs && target/sweep_rs
 //
-// The structs are those of include/tembuzar.h. A slice is handed over as its pointer and its length, so a safe function around each
-// call is all that Rust needs: the borrow checker sees to it that lists do not overlap.
+// The structs are those of include/tembuzar.h. A slice is handed over as its pointer and its length, so a safe function
+// around each call is all that Rust needs: the borrow checker sees to it that lists do not overlap.
 
 #[repr(C)]
 #[derive(Clone, Copy, Debug)]
@@ -19,7 +19,7 @@ struct Refusal {
     extent: u64,
     place: u64,
     count: u64,
-    bytes: u64,
+    needed: u64,
 }
 
 #[repr(C)]

@@ -8,10 +8,13 @@
  *
  * The code behind each function is proved to answer by one rule, for every input that the rules below allow.
  * docs/ENTRIES.md names the rule of each.
- * Link with target/staticlib/libtembuzar.a, which `rt staticlib tembuzar` writes for x86-64 Linux. The two functions that
- * sample many points in one call are in a library of their own, target/staticlib/libtembuzar_samples.a, which
- * `rt staticlib tembuzar_samples` writes; it needs nothing of the other. So are those of charts, in
+ * Link with target/staticlib/libtembuzar.a, which `rt staticlib tembuzar` writes for x86-64 Linux. The two functions
+ * that sample many points in one call are in a library of their own, target/staticlib/libtembuzar_samples.a, which
+ * `rt staticlib tembuzar_samples` writes; it needs nothing of the other. So are those of charts and reports, in
  * target/staticlib/libtembuzar_charts.a.
+ *
+ * A name ends in the number of the map's axes, 2 or 3. The four functions of season reports end in none, since a report
+ * knows columns and no axes.
  *
  * WHAT THE CALLER HOLDS
  *
@@ -25,12 +28,12 @@
  *   1. A list is a pointer to its first element and the number of its elements. The elements are there, aligned
  *      as C aligns their type, and not touched by another thread during the call. They are set, except that new, reset
  *      and read_record take odds and stamps that are not, write_record and write_sweep an output, sample_all_log_odds
- *      samples and found, layer_chart a chart, and start_report
- *      a report. Where the number is 0, the pointer may be NULL.
+ *      samples and found, layer_chart a chart, and start_report a report. Where the number is 0, the pointer may be
+ *      NULL.
  *   2. Where a call takes several lists, those that it may change (those not const) overlap no other of its lists.
  *   3. A bool is true or false, in a list of beams too.
- *   4. A pointer to a head, which open_scan takes, is not NULL. The head is there, set, aligned and untouched by others, as
- *      the elements of a list are, and overlaps no list of the call.
+ *   4. A pointer to a head, which open_scan takes, is not NULL. The head is there, set, aligned and untouched by
+ *      others, as the elements of a list are, and overlaps no list of the call.
  *
  *   Nothing else. A list of the wrong length, extents or a model out of bounds, a cell off the grid, NaN and
  *   infinity, a head that no function gave: each is answered, and no call crashes or does not return.
@@ -38,10 +41,11 @@
  *
  * WHAT IS ANSWERED
  *
- *   Every answer holds a tembuzar_refusal. Its number is 0 where the call was answered. Else it is one of the
- *   numbers below, what was asked for is 0 throughout, and the lists and the head lent to the call are as they were; with
- *   one exception: a list of beams, or a sweep file, refused with 7 at one beam keeps the votes of the beams before it.
- *   A call that several refusals fit gives the first in the order that the call's comment lists.
+ *   Every answer but that of tembuzar_step2 and tembuzar_step3, which refuse nothing, is a tembuzar_refusal or holds
+ *   one. Its number is 0 where the call was answered. Else it is one of the numbers below, what was asked for is 0
+ *   throughout, and the lists and the head lent to the call are as they were; with one exception: a list of beams, or
+ *   a sweep file, refused with 7 at one beam keeps the votes of the beams before it. A call that several refusals fit
+ *   gives the first in the order that the call's comment lists.
  *
  *   Points are in cells: the cell (0, 0) goes from 0.0 up to 1.0 on both axes. Floats are IEEE 754 doubles.
  */
@@ -55,6 +59,12 @@
 #ifdef __cplusplus
 extern "C" {
 #endif
+
+/* The version of this header, and of the libraries that are written from the same source. */
+#define TEMBUZAR_VERSION "0.13.0"
+#define TEMBUZAR_VERSION_MAJOR 0
+#define TEMBUZAR_VERSION_MINOR 13
+#define TEMBUZAR_VERSION_PATCH 0
 
 /* The bounds of a map: 2 to 4,096 cells along each axis, at most 16,777,216 in all. */
 #define TEMBUZAR_SHORTEST_AXIS 2
@@ -70,17 +80,18 @@ enum tembuzar_number {
     TEMBUZAR_ANSWERED = 0,
     TEMBUZAR_DIMENSION_TOO_SMALL = 1,   /* an extent below 2. Gives axis (the first such), extent */
     TEMBUZAR_CAPACITY_OVERFLOW = 2,     /* an extent above 4,096, or too many cells */
-    TEMBUZAR_MODEL = 3,                 /* the model or a band is out of its bounds: see tembuzar_model, tembuzar_bands */
+    TEMBUZAR_MODEL = 3,                 /* the model or a band is out of its bounds: tembuzar_model, tembuzar_bands */
     TEMBUZAR_BUFFER = 4,                /* odds or stamps are not one for each cell */
-    TEMBUZAR_OUT_OF_BOUNDS = 5,         /* a cell or a point is off the grid. Gives axis (the first), index, extent, axes */
+    TEMBUZAR_OUT_OF_BOUNDS = 5,         /* a cell or a point is off the grid. Gives axis (the first), index, extent,
+                                           axes */
     TEMBUZAR_NON_FINITE_COORDINATE = 6, /* a point has NaN or infinity. Gives axis (the first) */
     TEMBUZAR_RAY = 7,                   /* a beam or a line cannot be plotted. In a list, gives place and count */
     TEMBUZAR_BEAMS = 8,                 /* the flat list is no list of beams */
     TEMBUZAR_FRAME = 9,                 /* the head's frame is 0 or above TEMBUZAR_HIGHEST_FRAME */
-    TEMBUZAR_RECORD = 10,               /* a map record is broken. Gives bytes: the offset of the field */
-    TEMBUZAR_ROOM = 11,                 /* the output is shorter than the record, file or chart. Gives bytes: how many it needs,
-                                           for a chart numbers */
-    TEMBUZAR_SWEEP = 12,                /* a sweep file is broken. Gives bytes: the offset of the field */
+    TEMBUZAR_RECORD = 10,               /* a map record is broken. Gives place: the offset of the field */
+    TEMBUZAR_ROOM = 11,                 /* the output is shorter than the record, file or chart. Gives needed: how many
+                                           elements it has to have */
+    TEMBUZAR_SWEEP = 12,                /* a sweep file is broken. Gives place: the offset of the field */
     TEMBUZAR_ODDS = 13,                 /* the odds are not a number */
     TEMBUZAR_LISTS = 14,                /* points, samples and marks are not for the same number of points */
     TEMBUZAR_CUTS = 15,                 /* the cuts are not 0 < first < second < extents.z, or the map has two axes */
@@ -95,14 +106,16 @@ enum tembuzar_number {
 typedef struct tembuzar_refusal {
     uint32_t number; /* 0: the call was answered. Else: enum tembuzar_number */
     uint16_t values; /* how many values the refusal gives, 0 to 4 */
-    uint16_t axes;   /* 5: all axes that are off, 1 for x, 2 for y, 4 for z, added up; of a point, those before the first that
-                        is not finite */
+    uint16_t axes;   /* 5: all axes that are off, 1 for x, 2 for y, 4 for z, added up; of a point, those before the
+                        first that is not finite */
     uint64_t axis;   /* 1, 5, 6: 0 for x, 1 for y, 2 for z */
     int64_t index;   /* 5: the cell's index on that axis; of a point, its coordinate cut to a whole number */
     uint64_t extent; /* 1, 5: the extent of that axis */
-    uint64_t place;  /* 7 in a list: the place of the refused beam, from 0. 17: the column, x + extents.x * y */
+    uint64_t place;  /* 7 in a list: the place of the refused beam, from 0. 10, 12: the offset of the field in the
+                        record or file, in bytes. 17: the column, x + extents.x * y */
     uint64_t count;  /* 7 in a list: the count of the beams before it */
-    uint64_t bytes;  /* 10, 12: the offset of the field in the record or file. 11: how many bytes it has; of a chart, numbers */
+    uint64_t needed; /* 11: the least number of elements of the output: of a record or file, bytes; of a chart, uint16_t
+                        numbers, so that it takes needed * sizeof(uint16_t) bytes */
 } tembuzar_refusal;
 
 /* ---- Maps ---- */
@@ -176,10 +189,11 @@ typedef struct tembuzar_extents3 {
     uint64_t x, y, z;
 } tembuzar_extents3;
 
-/* A map of three axes has three bands along z, each with its own pair of steps, since high cloud returns less light than
- * low cloud. A cell whose z is below cuts.first is in the low band, below cuts.second in the middle one, else in the high
- * one. The ceiling is common; each pair with it has the bounds of a tembuzar_model, else 3. 0 < first < second <
- * extents.z, so that each band has a height at least; else 15, and so a map of three axes has 3 heights or more. */
+/* A map of three axes has three bands along z, each with its own pair of steps, since high cloud returns less light
+ * than low cloud. A cell whose z is below cuts.first is in the low band, below cuts.second in the middle one, else in
+ * the high one. The ceiling is common; each pair with it has the bounds of a tembuzar_model, else 3.
+ * 0 < first < second < extents.z, so that each band has a height at least; else 15, and so a map of three axes has 3
+ * heights or more. */
 typedef struct tembuzar_pair {
     double occupied;
     double free;
@@ -248,8 +262,8 @@ typedef struct tembuzar_mark_answer {
     bool changed;
 } tembuzar_mark_answer;
 
-/* How many marks changed a cell; of a record or a sweep file, how many bytes were written; of a report, how many charts it
- * has. */
+/* How many marks changed a cell; of a record or a sweep file, how many bytes were written; of a report, how many charts
+ * it has. */
 typedef struct tembuzar_count_answer {
     tembuzar_refusal refusal;
     uint64_t count;
@@ -291,7 +305,7 @@ typedef struct tembuzar_line_answer2 {
     tembuzar_line2 line;
 } tembuzar_line_answer2;
 
-/* A cell of a line, and the line after it; or not found, and the line as it was. */
+/* A cell of a line, and the line after it; or not found, and the line as it was. A step is never refused. */
 typedef struct tembuzar_step_answer2 {
     bool found;
     tembuzar_cell2 cell;
@@ -340,8 +354,9 @@ tembuzar_map_answer2 tembuzar_reset2(tembuzar_map2 map,
  * from TEMBUZAR_HIGHEST_FRAME on, stamps become 0 and frames start again at 1. Refuses with 1, 2, 4. */
 tembuzar_map_answer2 tembuzar_begin_scan2(tembuzar_map2 map, uint32_t *stamps, size_t stamps_count);
 
-/* Opens a sweep in a head where it stands: as tembuzar_begin_scan2, but the next frame is written into *map, and nothing
- * else of it. number is 0 where it was done; a refused call leaves *map as it was. map is never NULL. Refuses with 1, 2, 4. */
+/* Opens a sweep in a head where it stands: as tembuzar_begin_scan2, but the next frame is written into *map, and
+ * nothing else of it. number is 0 where it was done; a refused call leaves *map as it was. map is never NULL.
+ * Refuses with 1, 2, 4. */
 tembuzar_refusal tembuzar_open_scan2(tembuzar_map2 *map, uint32_t *stamps, size_t stamps_count);
 
 /* A list of beams, in order. numbers has 4 for each beam, origin x, y, then endpoint x, y;
@@ -353,10 +368,10 @@ tembuzar_count_answer tembuzar_update_scan2(tembuzar_map2 map,
                                             const double *numbers, size_t numbers_count,
                                             const uint8_t *hits, size_t hits_count);
 
-/* A list of beams, in order, as structs: beams points to an array of beams_count of them, and may be NULL where there are
- * none. What tembuzar_update_scan2 does with the same beams; no list of structs has a wrong shape.
- * Refuses with 1, 2, 3, 4, 9, 7; with 7 at one beam, the beams before it stay, and the refusal gives the beam's place and
- * their count. */
+/* A list of beams, in order, as structs: beams points to an array of beams_count of them, and may be NULL where there
+ * are none. What tembuzar_update_scan2 does with the same beams; no list of structs has a wrong shape.
+ * Refuses with 1, 2, 3, 4, 9, 7; with 7 at one beam, the beams before it stay, and the refusal gives the beam's place
+ * and their count. */
 tembuzar_count_answer tembuzar_update_beams2(tembuzar_map2 map,
                                              double *odds, size_t odds_count, uint32_t *stamps, size_t stamps_count,
                                              const tembuzar_beam2 *beams, size_t beams_count);
@@ -397,10 +412,11 @@ tembuzar_odds_answer tembuzar_log_odds_at2(tembuzar_map2 map, const double *odds
 tembuzar_sample_answer2 tembuzar_sample_log_odds2(tembuzar_map2 map, const double *odds, size_t odds_count,
                                                   tembuzar_point2 point);
 
-/* The same at many points. points has 2 numbers for each point, x, y, as an array of tembuzar_point2 has; samples has 3 for
- * each point, value, gradient x, gradient y, as an array of tembuzar_sample2 has; found has a byte for each point. Point by
- * point, samples and found become what tembuzar_sample_log_odds2 answers: found is 1 and the sample's numbers are written, or
- * found is 0 and the point's numbers in samples stay as they were. number is 0 where it was done.
+/* The same at many points. points has 2 numbers for each point, x, y, as an array of tembuzar_point2 has from
+ * &array[0].x on; samples has 3 for each point, value, gradient x, gradient y, as an array of tembuzar_sample2 has from
+ * &array[0].value on; found has a byte for each point. Point by point, samples and found become what
+ * tembuzar_sample_log_odds2 answers: found is 1 and the sample's numbers are written, or found is 0 and the point's
+ * numbers in samples stay as they were. number is 0 where it was done.
  * Refuses with 1, 2, 4, 14. 14: points are not 2, or samples not 3, for each byte of found. */
 tembuzar_refusal tembuzar_sample_all_log_odds2(tembuzar_map2 map, const double *odds, size_t odds_count,
                                                const double *points, size_t points_count,
@@ -416,9 +432,9 @@ tembuzar_line_answer2 tembuzar_plotter2(tembuzar_point2 start, tembuzar_point2 e
 /* The next cell of a line: call it with each answer's line until it finds none. */
 tembuzar_step_answer2 tembuzar_step2(tembuzar_line2 line);
 
-/* ---- Functions, three axes: as for two; a beam of a list has 6 numbers, origin x, y, z, then endpoint x, y, z; a point
- *      of a list has 3, x, y, z, and its sample 4, value, gradient x, y, z. Each function that refuses with 3 refuses bad
- *      cuts with 15, after 3 and before the rest ---- */
+/* ---- Functions, three axes: as for two; a beam of a list has 6 numbers, origin x, y, z, then endpoint x, y, z; a
+ *      point of a list has 3, x, y, z, and its sample 4, value, gradient x, y, z. Each function that refuses with 3
+ *      refuses bad cuts with 15, after 3 and before the rest ---- */
 
 tembuzar_map_answer3 tembuzar_new3(tembuzar_extents3 extents, tembuzar_bands bands,
                                    double *odds, size_t odds_count, uint32_t *stamps, size_t stamps_count);
@@ -444,11 +460,11 @@ tembuzar_count_answer tembuzar_update_ray3(tembuzar_map3 map,
                                            tembuzar_beam3 beam);
 
 /* One vertical beam, of an instrument that looks straight up and sends whole numbers; three axes only. The cells
- * (x, y, bottom) to (x, y, top) are marked free, but the last occupied if the beam is a hit. Where top is extents.z, the beam
- * ran out: the cells up to the highest are all marked free, hit or not. It does what tembuzar_update_ray3 does with the beam
- * from (x + 0.5, y + 0.5, bottom + 0.5) to (x + 0.5, y + 0.5, top + 0.5), or to z = extents.z where it ran out: the same odds,
- * stamps and count. Refuses with 1, 2, 3, 4, 9, 18. 18: not x < extents.x, y < extents.y, bottom < extents.z and
- * bottom <= top <= extents.z. */
+ * (x, y, bottom) to (x, y, top) are marked free, but the last occupied if the beam is a hit. Where top is extents.z,
+ * the beam ran out: the cells up to the highest are all marked free, hit or not. It does what tembuzar_update_ray3 does
+ * with the beam from (x + 0.5, y + 0.5, bottom + 0.5) to (x + 0.5, y + 0.5, top + 0.5), or to z = extents.z where it
+ * ran out: the same odds, stamps and count. Refuses with 1, 2, 3, 15, 4, 9, 18. 18: not x < extents.x, y < extents.y,
+ * bottom < extents.z and bottom <= top <= extents.z. */
 tembuzar_count_answer tembuzar_update_vertical3(tembuzar_map3 map,
                                                 double *odds, size_t odds_count, uint32_t *stamps, size_t stamps_count,
                                                 tembuzar_vertical_beam beam);
@@ -502,21 +518,22 @@ tembuzar_step_answer3 tembuzar_step3(tembuzar_line3 line);
 /* The map of a record: its head, with the record's frame; odds become the record's, and stamps 0. A sweep that was open
  * when the record was written is over: the next one starts with tembuzar_begin_scan2.
  * Refuses with 10, 4. 10: a field is cut short or absent, has another tag or length, or holds extents, a model, a frame
- * or odds out of bounds, or something follows the end; bytes is the offset of the first such field, or of what follows.
+ * or odds out of bounds, or something follows the end; place is the offset of the first such field, or of what follows.
  * A record of three axes is broken at offset 0 for two, and one of two for three. */
 tembuzar_map_answer2 tembuzar_read_record2(const uint8_t *bytes, size_t bytes_count,
                                            double *odds, size_t odds_count, uint32_t *stamps, size_t stamps_count);
 
 /* The record of a map, from the first byte of out on; what follows it in out stays. The count is of its bytes.
- * Refuses with 1, 2, 3, 4, 9, 10, 11. 10: odds do not lie from the floor to the ceiling, or are NaN; bytes is the
- * offset that their row would have in the record. 11: out is shorter than the record; bytes is how many the record has,
- * so that a call with 0 bytes of out asks for the size. */
+ * Refuses with 1, 2, 3, 4, 9, 10, 11. 10: odds do not lie from the floor to the ceiling, or are NaN; place is the
+ * offset that their row would have in the record. 11: out is shorter than the record; needed is how many bytes the
+ * record has, so that a call with 0 bytes of out asks for the size. */
 tembuzar_count_answer tembuzar_write_record2(tembuzar_map2 map, const double *odds, size_t odds_count,
                                              uint8_t *out, size_t out_count);
 
-/* The same for three axes. A record has one pair of steps and no cuts: read, every band has its pair, and the cuts are the
- * caller's; cuts that do not fit the record's extents are refused with 15, after 10 and before 4. Written, the pairs of
- * all bands have to be equal, bit for bit; else 10 at offset 9, that of the model's field, before that of any row. */
+/* The same for three axes. A record has one pair of steps and no cuts: read, every band has its pair, and the cuts are
+ * the caller's; cuts that do not fit the record's extents are refused with 15, after 10 and before 4. Written, the
+ * pairs of all bands have to be equal, bit for bit; else 10 at offset 9, that of the model's field, before that of any
+ * row. */
 tembuzar_map_answer3 tembuzar_read_record3(const uint8_t *bytes, size_t bytes_count, tembuzar_cuts cuts,
                                            double *odds, size_t odds_count, uint32_t *stamps, size_t stamps_count);
 
@@ -537,20 +554,20 @@ tembuzar_count_answer tembuzar_write_record3(tembuzar_map3 map, const double *od
  * So there are 9 bytes before the beams, 36 for each beam of two axes and 52 for each of three, and 7 at the end.
  * Coordinates may be NaN or infinite: a NaN is written as one and the same NaN. */
 
-/* The beams of a sweep file, in order, as tembuzar_update_scan2 does with the same beams. The whole file is tried before
- * the first beam. Answers the station's number and the count of the whole file.
- * Refuses with 1, 2, 3, 4, 9, 12, 7; with 7 at one beam, the beams before it stay, and the refusal gives the beam's place
- * and their count. 12: a field is cut short or absent, has another tag or length, the axes are not the map's, a beam's
- * byte is neither 0 nor 1, the count is not that of the beams, or something follows the end; bytes is the offset of the
- * first such field, or of what follows. */
+/* The beams of a sweep file, in order, as tembuzar_update_scan2 does with the same beams. The whole file is tried
+ * before the first beam. Answers the station's number and the count of the whole file.
+ * Refuses with 1, 2, 3, 4, 9, 12, 7; with 7 at one beam, the beams before it stay, and the refusal gives the beam's
+ * place and their count. 12: a field is cut short or absent, has another tag or length, the axes are not the map's, a
+ * beam's byte is neither 0 nor 1, the count is not that of the beams, or something follows the end; place is the
+ * offset of the first such field, or of what follows. */
 tembuzar_sweep_answer tembuzar_update_sweep2(tembuzar_map2 map,
                                              double *odds, size_t odds_count, uint32_t *stamps, size_t stamps_count,
                                              const uint8_t *bytes, size_t bytes_count);
 
-/* The sweep file of a flat list of beams, as tembuzar_update_scan2 takes it, from the first byte of out on; what follows
- * it in out stays. The count is of its bytes. Refuses with 8, 11. 8: the list is none of beams, or has more than
- * 4,294,967,295 of them. 11: out is shorter than the file; bytes is how many the file has, so that a call with 0 bytes of
- * out asks for the size. */
+/* The sweep file of a flat list of beams, as tembuzar_update_scan2 takes it, from the first byte of out on; what
+ * follows it in out stays. The count is of its bytes. Refuses with 8, 11. 8: the list is none of beams, or has more
+ * than 4,294,967,295 of them. 11: out is shorter than the file; needed is how many bytes the file has, so that a call
+ * with 0 bytes of out asks for the size. */
 tembuzar_count_answer tembuzar_write_sweep2(uint16_t station, const double *numbers, size_t numbers_count,
                                             const uint8_t *hits, size_t hits_count, uint8_t *out, size_t out_count);
 
@@ -564,63 +581,81 @@ tembuzar_count_answer tembuzar_write_sweep3(uint16_t station, const double *numb
 
 /* ---- Charts: the cover of a map of three axes, seen column by column ----
  *
- * The column (x, y) is number x + extents.x * y. It has five numbers in a chart, as an array of tembuzar_column has: the
- * cover of its low, middle and high band in eighths, 0 to 8, the total by maximum overlap, which is the largest band, and
- * the total by random overlap over 512, which is 512 - (8 - low) * (8 - middle) * (8 - high). A band takes its largest cell.
- * A cell's eighths are how many of these its odds are at or above:
+ * A chart is a list of uint16_t, five for each column; the column (x, y) is number x + extents.x * y. The five are the
+ * cover of the column's low, middle and high band in eighths, 0 to 8, the total by maximum overlap, which is the
+ * largest band, and the total by random overlap over 512, which is 512 - (8 - low) * (8 - middle) * (8 - high). A band
+ * takes its largest cell. A cell's eighths are how many of these its odds are at or above:
  *
  *   -1.9459101490553132, -1.0986122886681098, -0.5108256237659907, 0,
  *    0.5108256237659907,  1.0986122886681098,  1.9459101490553132
  *
- * but 8 where they are at or above the ceiling. random is never below 64 * maximum; they are equal exactly where two bands or
- * more are 0, or one is 8. */
-typedef struct tembuzar_column {
-    uint16_t low, middle, high;
-    uint16_t maximum; /* of 8 */
-    uint16_t random;  /* of 512 */
-} tembuzar_column;
+ * but 8 where they are at or above the ceiling. random is never below 64 * maximum; they are equal exactly where two
+ * bands or more are 0, or one is 8.
+ *
+ * With `tembuzar_column chart[COLUMNS]`, a column's number is chart[c][TEMBUZAR_MAXIMUM], and the list to hand over is
+ * chart[0], of COLUMNS * TEMBUZAR_COLUMN_NUMBERS numbers. */
+enum tembuzar_column_place {
+    TEMBUZAR_LOW,
+    TEMBUZAR_MIDDLE,
+    TEMBUZAR_HIGH,
+    TEMBUZAR_MAXIMUM, /* of 8 */
+    TEMBUZAR_RANDOM,  /* of 512 */
+    TEMBUZAR_COLUMN_NUMBERS
+};
 
-/* The chart of a map, five numbers for each column from the first of chart on; what follows them in chart stays. number is 0
- * where it was done. Refuses with 1, 2, 3, 15, 4, 11, 17, each before anything is written. 11: chart has less than
- * 5 * extents.x * extents.y numbers; bytes is how many that are. 17: place is the first column that holds NaN. */
+typedef uint16_t tembuzar_column[TEMBUZAR_COLUMN_NUMBERS];
+
+/* The chart of a map, from the first number of chart on; what follows it in chart stays. number is 0 where it was done.
+ * Refuses with 1, 2, 3, 15, 4, 11, 17, each before anything is written. 11: chart has less than
+ * 5 * extents.x * extents.y numbers; needed is how many that are, so that a call with 0 numbers asks for them.
+ * 17: place is the first column that holds NaN. */
 tembuzar_refusal tembuzar_layer_chart3(tembuzar_map3 map, const double *odds, size_t odds_count,
                                        uint16_t *chart, size_t chart_count);
 
-/* A map of two axes has no cuts, and no chart. Refuses with 1, 2, 3, 15. */
+/* Never succeeds: a map of two axes has no cuts, so it has no bands and no chart. Refuses with 1, 2, 3, or else 15, and
+ * chart stays as it was. It is there so that a caller for any number of axes is answered by number. */
 tembuzar_refusal tembuzar_layer_chart2(tembuzar_map2 map, uint16_t *chart, size_t chart_count);
 
 /* ---- Season reports: a table over many charts of equal size ----
  *
- * A report is how many charts it is of, which the caller keeps, and a list of twelve numbers for each column, as an array of
- * tembuzar_report_column has. The count of an answer is how many charts the report has afterwards: it goes into the next call.
- * Night by night, in runs, or joined from parts, the same charts give the same report. Each call tries all it is given before
- * it writes a number. */
-typedef struct tembuzar_report_column {
-    uint32_t stood[9]; /* how often each total by maximum overlap stood, 0 to 8 */
-    uint32_t differ;   /* how often the two totals differed */
-    uint32_t maximum;  /* the sum of the totals by maximum overlap, over 512 */
-    uint32_t random;   /* the sum of the totals by random overlap, over 512 */
-} tembuzar_report_column;
+ * A report is how many charts it is of, which the caller keeps, and a list of uint32_t, twelve for each column: how
+ * often each total by maximum overlap stood, 0 to 8, how often the two totals differed, the sum of the totals by
+ * maximum overlap, over 512, and the sum of the totals by random overlap, over 512. The count of an answer is how many
+ * charts the report has afterwards: it goes into the next call. Night by night, in runs, or joined from parts, the same
+ * charts give the same report. Each call tries all it is given before it writes a number.
+ *
+ * With `tembuzar_report_column report[COLUMNS]`, report[c][TEMBUZAR_STOOD + 8] is how often column c was all cloud, and
+ * the list to hand over is report[0], of COLUMNS * TEMBUZAR_REPORT_NUMBERS numbers. */
+enum tembuzar_report_place {
+    TEMBUZAR_STOOD = 0, /* and the total, 0 to 8 */
+    TEMBUZAR_DIFFER = 9,
+    TEMBUZAR_MAXIMUM_SUM,
+    TEMBUZAR_RANDOM_SUM,
+    TEMBUZAR_REPORT_NUMBERS
+};
+
+typedef uint32_t tembuzar_report_column[TEMBUZAR_REPORT_NUMBERS];
 
 /* The most charts that a report can have. */
 #define TEMBUZAR_MOST_CHARTS 4096
 
-/* An empty report of so many columns: every number becomes 0, and the count is 0. Refuses with 19: report has not 12 numbers
- * for each column. */
+/* An empty report of so many columns: every number becomes 0, and the count is 0. Refuses with 19: report has not 12
+ * numbers for each column. */
 tembuzar_count_answer tembuzar_start_report(uint64_t columns, uint32_t *report, size_t report_count);
 
-/* One chart into a report of so many. Refuses with 19, 20, 21. 19: report has not 12 numbers, and chart not 5, for each of the
- * same number of columns. 21: chart has a band above 8 or totals that its bands do not give, or report a column whose nine
- * counts do not add up to charts or another number above 512 * charts. */
+/* One chart into a report of so many. Refuses with 19, 20, 21. 19: report has not 12 numbers, and chart not 5, for each
+ * of the same number of columns. 21: chart has a band above 8 or totals that its bands do not give, or report a column
+ * whose nine counts do not add up to charts or another number above 512 * charts. */
 tembuzar_count_answer tembuzar_add_chart(uint64_t charts, uint32_t *report, size_t report_count,
                                          const uint16_t *chart, size_t chart_count);
 
-/* A run of count charts, one after another in one list, at once. Refuses as tembuzar_add_chart does, and then adds none. */
+/* A run of count charts, one after another in one list, at once. Refuses as tembuzar_add_chart does, and then adds
+ * none. */
 tembuzar_count_answer tembuzar_add_charts(uint64_t charts, uint32_t *report, size_t report_count,
                                           uint64_t count, const uint16_t *run, size_t run_count);
 
-/* Another report, of so many more charts, into a report of so many. Refuses with 19, 20, 21: 19, the two are not of the same
- * size; 21, as above, of either. */
+/* Another report, of so many more charts, into a report of so many. Refuses with 19, 20, 21: 19, the two are not of the
+ * same size; 21, as above, of either. */
 tembuzar_count_answer tembuzar_join_reports(uint64_t charts, uint32_t *report, size_t report_count,
                                             uint64_t more, const uint32_t *other, size_t other_count);
 

@@ -15,7 +15,7 @@ pub struct Refusal {
     pub extent: u64,
     pub place: u64,
     pub count: u64,
-    pub bytes: u64,
+    pub needed: u64,
 }
 
 #[repr(C)]

@@ -9,17 +9,20 @@ use Rattle.c_types.specs.declared.refusals.CRefusal.{CRefusal}
 
 -- a number without values; 0 where the call was answered
 abbrev pub plain : ℕ → CRefusal
-plain number = record { number = number; values = 0; axes = 0; axis = 0; index = pos 0; extent = 0; place = 0; count = 0; bytes = 0 }
+plain number = record { number = number; values = 0; axes = 0; axis = 0; index = pos 0; extent = 0; place = 0; count = 0; needed = 0 }
 
 abbrev pub onGrid : ℕ → ℕ → ℕ → ℤ → ℕ → ℕ → CRefusal
 onGrid number values axis index extent axes =
-    record { number = number; values = values; axes = axes; axis = axis; index = index; extent = extent; place = 0; count = 0; bytes = 0 }
+    record { number = number; values = values; axes = axes; axis = axis; index = index; extent = extent; place = 0; count = 0; needed = 0 }
 
 abbrev pub inList : ℕ → ℕ → CRefusal
-inList place count = record { number = 7; values = 2; axes = 0; axis = 0; index = pos 0; extent = 0; place = place; count = count; bytes = 0 }
+inList place count = record { number = 7; values = 2; axes = 0; axis = 0; index = pos 0; extent = 0; place = place; count = count; needed = 0 }
 
-abbrev pub inRecord : ℕ → ℕ → CRefusal
-inRecord number bytes = record { number = number; values = 1; axes = 0; axis = 0; index = pos 0; extent = 0; place = 0; count = 0; bytes = bytes }
+abbrev pub atPlace : ℕ → ℕ → CRefusal
+atPlace number place = record { number = number; values = 1; axes = 0; axis = 0; index = pos 0; extent = 0; place = place; count = 0; needed = 0 }
+
+abbrev pub inRoom : ℕ → CRefusal
+inRoom needed = record { number = 11; values = 1; axes = 0; axis = 0; index = pos 0; extent = 0; place = 0; count = 0; needed = needed }
 
 -- 1 to 6, 8 and 9: "first axis, extent", "first axis, index, extent" and the set of the axes, "axis", or nothing
 abbrev pub gridValues : ℕ → List ℤ → CRefusal
@@ -35,21 +38,18 @@ listValues [] = plain 7
 listValues (place ∷ []) = plain 7
 listValues (place ∷ count ∷ more) = inList (natAbs place) (natAbs count)
 
--- 17: "with the column"
-abbrev pub inChart : ℕ → CRefusal
-inChart column = record { number = 17; values = 1; axes = 0; axis = 0; index = pos 0; extent = 0; place = column; count = 0; bytes = 0 }
+-- 11: "bytes needed", of a chart its numbers
+abbrev pub roomValues : List ℤ → CRefusal
+roomValues [] = plain 11
+roomValues (needed ∷ more) = inRoom (natAbs needed)
 
-abbrev pub chartValues : List ℤ → CRefusal
-chartValues [] = plain 17
-chartValues (column ∷ more) = inChart (natAbs column)
-
--- 10 to 12: "offset of the field", "bytes needed", "with its offset"; 13 to 15 and 18 to 21 have no values
-abbrev pub recordValues : ℕ → List ℤ → CRefusal
-recordValues number [] = plain number
-recordValues number (bytes ∷ more) = inRecord number (natAbs bytes)
+-- 10 and 12: "offset of the field", "with its offset"; 17: "with the column"; 13 to 15 and 18 to 21 have no values
+abbrev pub placeValues : ℕ → List ℤ → CRefusal
+placeValues number [] = plain number
+placeValues number (place ∷ more) = atPlace number (natAbs place)
 
 abbrev pub cRefusal : Refusal → CRefusal
 cRefusal r =
     cond (eqb (r .number) 7) (listValues (r .values))
-    (cond (eqb (r .number) 17) (chartValues (r .values))
-    (cond (ltb 9 (r .number)) (recordValues (r .number) (r .values)) (gridValues (r .number) (r .values))))
+    (cond (eqb (r .number) 11) (roomValues (r .values))
+    (cond (ltb 9 (r .number)) (placeValues (r .number) (r .values)) (gridValues (r .number) (r .values))))

@@ -1,8 +1,8 @@
-// A refusal as C sees it: document 01's number, and each of the table's values under a name of its own. Axes, extents, places and
-// counts are never negative and stay unsigned, so every refusal has its struct, whatever its values.
+// A refusal as C sees it: its number, and each of the table's values under a name. Axes, extents, places and counts are
+// never negative and stay unsigned, so every refusal has its struct, whatever its values.
 ghost use mathlib.Core.Path.{_≡_};
 ghost use Rattle.types.specs.Refusals.{refusalOf};
-ghost use Rattle.c_types.specs.Refusals.{plain, onGrid, inList, inChart, inRecord, cRefusal};
+ghost use Rattle.c_types.specs.Refusals.{plain, onGrid, inList, atPlace, inRoom, cRefusal};
 use types::Refusal;
 
 #[repr(C)]
@@ -19,14 +19,15 @@ pub struct CRefusal {
     pub index: i64,
     // 1 and 5.
     pub extent: u64,
-    // 7 in a list: the refused beam's place, from 0, and the count of the beams before it. 17: the column's place.
+    // 7 in a list: the refused beam's place, from 0. 10 and 12: the offset of the broken field. 17: the column's place.
     pub place: u64,
+    // 7 in a list: the count of the beams before it.
     pub count: u64,
-    // 10 and 12: the offset of the broken field. 11: the bytes needed, or a chart's numbers.
-    pub bytes: u64,
+    // 11: how many elements the output has to have: bytes of a record or a file, numbers of a chart.
+    pub needed: u64,
 }
 
-// A number without values; 0 is none of document 01's, and stands for an answer.
+// A number without values; 0 is no refusal's, and stands for an answer.
 pub fn bare(number: u32) -> CRefusal
     ensures { λ r. ⌜ r ≡ plain number ⌝ }
 {
@@ -39,7 +40,7 @@ pub fn bare(number: u32) -> CRefusal
         extent: 0,
         place: 0,
         count: 0,
-        bytes: 0,
+        needed: 0,
     }
 }
 
@@ -56,7 +57,7 @@ fn on_grid(number: u32, values: u16, axis: u64, index: i64, extent: u64, axes: u
         extent,
         place: 0,
         count: 0,
-        bytes: 0,
+        needed: 0,
     }
 }
 
@@ -73,30 +74,13 @@ fn in_list(place: u64, count: u64) -> CRefusal
         extent: 0,
         place,
         count,
-        bytes: 0,
+        needed: 0,
     }
 }
 
-// A refusal of one column of a chart.
-fn in_chart(column: u64) -> CRefusal
-    ensures { λ r. ⌜ r ≡ inChart column ⌝ }
-{
-    CRefusal {
-        number: 17,
-        values: 1,
-        axes: 0,
-        axis: 0,
-        index: 0,
-        extent: 0,
-        place: column,
-        count: 0,
-        bytes: 0,
-    }
-}
-
-// A refusal of a map record or a sweep file, or of too little room.
-fn in_record(number: u32, bytes: u64) -> CRefusal
-    ensures { λ r. ⌜ r ≡ inRecord number bytes ⌝ }
+// A refusal of a record, a file or a chart at one place in it.
+fn at_place(number: u32, place: u64) -> CRefusal
+    ensures { λ r. ⌜ r ≡ atPlace number place ⌝ }
 {
     CRefusal {
         number,
@@ -105,9 +89,26 @@ fn in_record(number: u32, bytes: u64) -> CRefusal
         axis: 0,
         index: 0,
         extent: 0,
+        place,
+        count: 0,
+        needed: 0,
+    }
+}
+
+// A refusal of an output that is too short.
+fn in_room(needed: u64) -> CRefusal
+    ensures { λ r. ⌜ r ≡ inRoom needed ⌝ }
+{
+    CRefusal {
+        number: 11,
+        values: 1,
+        axes: 0,
+        axis: 0,
+        index: 0,
+        extent: 0,
         place: 0,
         count: 0,
-        bytes,
+        needed,
     }
 }
 
@@ -130,14 +131,14 @@ pub fn refusal_to_c(refusal: Refusal) -> CRefusal
         Refusal::RayInList { place, count } => in_list(place, count),
         Refusal::Beams => bare(8),
         Refusal::Frame => bare(9),
-        Refusal::Record { offset } => in_record(10, offset),
-        Refusal::Room { needed } => in_record(11, needed),
-        Refusal::Sweep { offset } => in_record(12, offset),
+        Refusal::Record { offset } => at_place(10, offset),
+        Refusal::Room { needed } => in_room(needed),
+        Refusal::Sweep { offset } => at_place(12, offset),
         Refusal::Odds => bare(13),
         Refusal::Lists => bare(14),
         Refusal::Cuts => bare(15),
         Refusal::Profile => bare(18),
-        Refusal::Column { column } => in_chart(column),
+        Refusal::Column { column } => at_place(17, column),
         Refusal::Sizes => bare(19),
         Refusal::Charts => bare(20),
         Refusal::Chart => bare(21),

@@ -63,9 +63,9 @@ refusal-back c =
     (cond (eqb n 7) (cond (eqb (c .values) 0) R.Ray (R.RayInList (c .place) (c .count)))
     (cond (eqb n 8) R.Beams
     (cond (eqb n 9) R.Frame
-    (cond (eqb n 10) (R.Record (c .bytes))
-    (cond (eqb n 11) (R.Room (c .bytes))
-    (cond (eqb n 12) (R.Sweep (c .bytes))
+    (cond (eqb n 10) (R.Record (c .place))
+    (cond (eqb n 11) (R.Room (c .needed))
+    (cond (eqb n 12) (R.Sweep (c .place))
     (cond (eqb n 13) R.Odds
     (cond (eqb n 14) R.Lists
     (cond (eqb n 15) R.Cuts

@@ -68,20 +68,20 @@ bare-requires-6 c κs = search needs
 enum-known-refusal-5 : tie.Need-enum-known-refusal-5
 enum-known-refusal-5 c = search needs
 
-in-record-requires : tie.Need-in-record-requires
-in-record-requires c κs = search needs
+at-place-requires : tie.Need-at-place-requires
+at-place-requires c κs = search needs
 
 enum-known-refusal-6 : tie.Need-enum-known-refusal-6
 enum-known-refusal-6 c = search needs
 
-in-record-requires-2 : tie.Need-in-record-requires-2
-in-record-requires-2 c κs = search needs
+in-room-requires : tie.Need-in-room-requires
+in-room-requires c κs = search needs
 
 enum-known-refusal-7 : tie.Need-enum-known-refusal-7
 enum-known-refusal-7 c = search needs
 
-in-record-requires-3 : tie.Need-in-record-requires-3
-in-record-requires-3 c κs = search needs
+at-place-requires-2 : tie.Need-at-place-requires-2
+at-place-requires-2 c κs = search needs
 
 enum-told-7 : tie.Need-enum-told-7
 enum-told-7 c = search needs
@@ -110,8 +110,8 @@ bare-requires-10 c κs = search needs
 enum-known-refusal-8 : tie.Need-enum-known-refusal-8
 enum-known-refusal-8 c = search needs
 
-in-chart-requires : tie.Need-in-chart-requires
-in-chart-requires c κs = search needs
+at-place-requires-3 : tie.Need-at-place-requires-3
+at-place-requires-3 c κs = search needs
 
 enum-told-11 : tie.Need-enum-told-11
 enum-told-11 c = search needs
@@ -164,13 +164,13 @@ returns-10 : tie.Need-returns-10
 returns-10 c = simp (c .bare6 .ensures, c .before .enum-told6 .given .1)
 
 returns-11 : tie.Need-returns-11
-returns-11 c = simp (c .in-record .ensures, c .before .before .refusal5 .given .1)
+returns-11 c = simp (c .at-place .ensures, c .before .before .refusal5 .given .1)
 
 returns-12 : tie.Need-returns-12
-returns-12 c = simp (c .in-record2 .ensures, c .before .before .refusal6 .given .1)
+returns-12 c = simp (c .in-room .ensures, c .before .before .refusal6 .given .1)
 
 returns-13 : tie.Need-returns-13
-returns-13 c = simp (c .in-record3 .ensures, c .before .before .refusal7 .given .1)
+returns-13 c = simp (c .at-place2 .ensures, c .before .before .refusal7 .given .1)
 
 returns-14 : tie.Need-returns-14
 returns-14 c = simp (c .bare7 .ensures, c .before .enum-told7 .given .1)
@@ -185,7 +185,7 @@ returns-17 : tie.Need-returns-17
 returns-17 c = simp (c .bare10 .ensures, c .before .enum-told10 .given .1)
 
 returns-18 : tie.Need-returns-18
-returns-18 c = simp (c .in-chart .ensures, c .before .before .refusal8 .given .1)
+returns-18 c = simp (c .at-place3 .ensures, c .before .before .refusal8 .given .1)
 
 returns-19 : tie.Need-returns-19
 returns-19 c = simp (c .bare11 .ensures, c .before .enum-told11 .given .1)
@@ -221,11 +221,11 @@ refusal-to-c-spec =
     enum-told-6
     bare-requires-6
     enum-known-refusal-5
-    in-record-requires
+    at-place-requires
     enum-known-refusal-6
-    in-record-requires-2
+    in-room-requires
     enum-known-refusal-7
-    in-record-requires-3
+    at-place-requires-2
     enum-told-7
     bare-requires-7
     enum-told-8
@@ -235,7 +235,7 @@ refusal-to-c-spec =
     enum-told-10
     bare-requires-10
     enum-known-refusal-8
-    in-chart-requires
+    at-place-requires-3
     enum-told-11
     bare-requires-11
     enum-told-12
