@@ -10,9 +10,9 @@ use mathlib.Core.List.{List}
 use Rattle.rules.specs.RefusalNumbers.{Answer}
 use Rattle.rules.specs.TheGridAndItsBounds.{Head, Grid, cells}
 use Rattle.rules.specs.MarksAndFrames.{Mark, stepsAt, cellAt}
-use Rattle.theorems.specs.DemandThree.{Hit, ofUnits, modelOfUnits, cloudAlone}
+use Rattle.theorems.specs.PromiseThree.{Hit, ofUnits, modelOfUnits, cloudAlone}
 
--- ---- the premises, beside those of a sweep (`DemandThree.Sweep`): promise 3's of its last sentence, but for the floor's
+-- ---- the premises, beside those of a sweep (`PromiseThree.Sweep`): promise 3's of its last sentence, but for the floor's
 pub record InUnits (f : Format) (h : Head) (g : Grid) : Type 0 where
   -- The steps and the bounds are multiples of the unit, none above the largest size.
   pub model : T (modelOfUnits f (h .model))

@@ -1,6 +1,6 @@
 -- THE ORDER OF THE STATIONS' LISTS does not matter. A night is many calls: one station mails a file, another a list, an older one looks straight up, a keeper
 -- sends one beam again or marks a cell by hand. After `begin_scan`, where no call is refused, it matters which beams and marks were handed over: not in which
--- order, not how often, and not by which calls. `Words` has the calls and what they leave; promise 3's words are in `DemandThree`. Assumes nothing.
+-- order, not how often, and not by which calls. `Words` has the calls and what they leave; promise 3's words are in `PromiseThree`. Assumes nothing.
 pub mod Words
 pub mod OneCall
 pub mod Calls
@@ -17,9 +17,9 @@ use Rattle.rules.specs.RefusalNumbers.{given}
 use Rattle.rules.specs.RefusalNumbers.Entries.{beginScanEntry}
 use Rattle.rules.specs.TheGridAndItsBounds.{Head, Grid}
 use Rattle.rules.specs.LayerChart.{layerChartEntry}
-use Rattle.theorems.specs.DemandThree.{headOpened, gridOpened, Same, Opened, Multiples, Ends}
-use Rattle.theorems.specs.DemandThree.Proof.{permuted, repeated}
-use Rattle.theorems.specs.DemandThree.Entries.{begins}
+use Rattle.theorems.specs.PromiseThree.{headOpened, gridOpened, Same, Opened, Multiples, Ends}
+use Rattle.theorems.specs.PromiseThree.Proof.{permuted, repeated}
+use Rattle.theorems.specs.PromiseThree.Entries.{begins}
 use Rattle.theorems.specs.FloorCost.{InUnits, FloorCost}
 use Rattle.theorems.specs.StationsLists.Words.{Call, Handed, handMarks, handed, night, NoneRefused, SameMap, AsGood}
 use Rattle.theorems.specs.StationsLists.ChartWords.{LoneVotes, NoThicker}

@@ -11,7 +11,7 @@ use Rattle.rules.specs.TheGridAndItsBounds.{Band, Model, layerOf, lastExtent, r
 use Rattle.rules.specs.Coordinates.{flatIndex}
 use Rattle.rules.specs.MarksAndFrames.{stepsAt, stepsWith}
 use Rattle.rules.specs.LayerChart.{cutsIn, stacked, cellsBetween}
-use Rattle.theorems.specs.DemandThree.Examples.{plus, minus, head3, grid3, opened}
+use Rattle.theorems.specs.PromiseThree.Examples.{plus, minus, head3, grid3, opened}
 use Rattle.theorems.specs.ChartCells.{OnGrid, columnOf, InBand, high, Banded}
 
 abbrev model : Model

@@ -10,7 +10,7 @@ use Rattle.rules.specs.RefusalNumbers.{given, refused, badCuts}
 use Rattle.rules.specs.RefusalNumbers.Entries.{Outcome, firstTooSmall, extentsRefusal, headRefusal}
 use Rattle.rules.specs.TheGridAndItsBounds.{Pair, Head, Grid, lastExtent, rising, cutsBelow, cutsInBounds}
 use Rattle.rules.specs.VerticalBeam.{inProfile, columnPlace, columnMarks, endsOccupied, cellsAbove, verticalMarks, updateVerticalEntry}
-use Rattle.theorems.specs.DemandThree.Examples.{plus, minus, grid3, opened}
+use Rattle.theorems.specs.PromiseThree.Examples.{plus, minus, grid3, opened}
 use Rattle.theorems.specs.EqualPairs.{OnePair}
 use Rattle.theorems.specs.MapRecord.Words.{plainHead}
 

@@ -6,9 +6,9 @@ use Rattle.rules.specs.Floats.{zeroF}
 use Rattle.rules.specs.TheGridAndItsBounds.{Grid}
 use Rattle.rules.specs.MarksAndFrames.{cellAt}
 use Rattle.rules.specs.OneBeam.{Beam}
-use Rattle.theorems.specs.DemandThree.{Sweep, sweep, ofUnits}
-use Rattle.theorems.specs.DemandThree.AsTests.{sweep-holds, every-at}
-use Rattle.theorems.specs.DemandThree.Examples.{minus, head2, cloud, clear, opened}
+use Rattle.theorems.specs.PromiseThree.{Sweep, sweep, ofUnits}
+use Rattle.theorems.specs.PromiseThree.AsTests.{sweep-holds, every-at}
+use Rattle.theorems.specs.PromiseThree.Examples.{minus, head2, cloud, clear, opened}
 use Rattle.theorems.specs.FloorCost.{InUnits, loneVote}
 
 -- a map of 2 by 2 with these odds at cell 1 and zero elsewhere; a clear beam crosses that cell, and then a beam hits it

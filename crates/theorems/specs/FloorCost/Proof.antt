@@ -14,13 +14,13 @@ use Rattle.rules.specs.TheGridAndItsBounds.{Model, Head, Grid, cells, bounded, 
 use Rattle.rules.specs.MarksAndFrames.{Mark, Steps, pairFor, stepsAt, stampOf, freed, occupy, cellAt}
 use Rattle.rules.specs.OneBeam.{Beam, beamMarks}
 use Rattle.laws.specs.Floats.Tests.{order}
-use Rattle.theorems.specs.DemandThree.{Opened, Ends, Sweep, sweep, Hit, frameOpened, oddsWithin, ofUnits, modelOfUnits, cloudAlone, cloudAfterClear}
-use Rattle.theorems.specs.DemandThree.Dyadic.{Units, dif, dif-units, add-dif, le-units}
-use Rattle.theorems.specs.DemandThree.Multiple.{many, plus, less}
-use Rattle.theorems.specs.DemandThree.TakeBack.{alone, takenBack, most, most-fits, StepUnits, free-is, freed-is, alone-is, back-low, take-back}
-use Rattle.theorems.specs.DemandThree.OneCell.{above, in-units, near-zero, step-units, of-units}
-use Rattle.theorems.specs.DemandThree.Orders.{back-step}
-use Rattle.theorems.specs.DemandThree.Proof.{demand-three}
+use Rattle.theorems.specs.PromiseThree.{Opened, Ends, Sweep, sweep, Hit, frameOpened, oddsWithin, ofUnits, modelOfUnits, cloudAlone, cloudAfterClear}
+use Rattle.theorems.specs.PromiseThree.Dyadic.{Units, dif, dif-units, add-dif, le-units}
+use Rattle.theorems.specs.PromiseThree.Multiple.{many, plus, less}
+use Rattle.theorems.specs.PromiseThree.TakeBack.{alone, takenBack, most, most-fits, StepUnits, free-is, freed-is, alone-is, back-low, take-back}
+use Rattle.theorems.specs.PromiseThree.OneCell.{above, in-units, near-zero, step-units, of-units}
+use Rattle.theorems.specs.PromiseThree.Orders.{back-step}
+use Rattle.theorems.specs.PromiseThree.Proof.{promise-three}
 use Rattle.theorems.specs.FloorCost.{InUnits, loneVote, FloorCost}
 
 -- at most the one and at least the other less a clear step
@@ -157,4 +157,4 @@ module _ {A : Type 0} (f : Format) (h : Head) (g : Grid) (marksOf : A → Answer
 
 -- of one list of beams
 pub floor-cost : (f : Format) (h : Head) (g : Grid) (bs : List Beam) → Sweep f h g bs → InUnits f h g → FloorCost f h g (beamMarks f (h .extents)) bs (sweep f h g bs .grid)
-floor-cost f h g bs p e = ends-cost f h g (beamMarks f (h .extents)) bs (sweep f h g bs .grid) (p .opened) (demand-three f h g bs p .ends) e
+floor-cost f h g bs p e = ends-cost f h g (beamMarks f (h .extents)) bs (sweep f h g bs .grid) (p .opened) (promise-three f h g bs p .ends) e

@@ -11,7 +11,7 @@ use Rattle.rules.specs.RefusalNumbers.Entries.{Outcome, firstTooSmall, extentsR
 use Rattle.rules.specs.TheGridAndItsBounds.{Head, Grid, freshGrid, rising, cutsBelow, cutsInBounds}
 use Rattle.rules.specs.MarksAndFrames.{setOdds}
 use Rattle.rules.specs.OneBeam.{Beam}
-use Rattle.theorems.specs.DemandThree.Examples.{model, head2, cloud, clear, opened}
+use Rattle.theorems.specs.PromiseThree.Examples.{model, head2, cloud, clear, opened}
 use Rattle.theorems.specs.HandCorrections.{Map, open-scan, after}
 
 -- a fresh map of 2 by 2

@@ -19,7 +19,7 @@ use Rattle.rules.specs.OneBeam.{Beam, integratedMarks, integratedBeam, integrat
 use Rattle.rules.specs.SweepFile.{Sweep, Swept, sweepOf, sweepAnswer, updateSweepEntry}
 use Rattle.rules.specs.VerticalBeam.{Vertical, inProfile, verticalMarks, updateVerticalEntry}
 use Rattle.laws.specs.Checks.{passed}
-use Rattle.theorems.specs.DemandThree.Proof.{opened-length}
+use Rattle.theorems.specs.PromiseThree.Proof.{opened-length}
 use Rattle.theorems.specs.HandCorrections.{Map, Call, set-odds, set-checked, mark, update-ray, update-scan, update-beams, update-sweep, update-vertical, open-scan, reset-map, headAfter, after, afterAll}
 use Rattle.theorems.specs.CheckedSet.{number-set, nan-refused}
 use Rattle.theorems.specs.HandCorrections.Sets.{set-length}

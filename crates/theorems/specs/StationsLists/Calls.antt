@@ -12,8 +12,8 @@ use Rattle.rules.specs.RefusalNumbers.Entries.{headRefusal, usesOf, beams}
 use Rattle.rules.specs.TheGridAndItsBounds.{Head, Grid}
 use Rattle.rules.specs.MarksAndFrames.{Mark, marked}
 use Rattle.beam.proofs.MarkLists.{marked-append, marked-odds, marked-stamps}
-use Rattle.theorems.specs.DemandThree.{Same}
-use Rattle.theorems.specs.DemandThree.Beams.{marksGiven, Taken, allMarks}
+use Rattle.theorems.specs.PromiseThree.{Same}
+use Rattle.theorems.specs.PromiseThree.Beams.{marksGiven, Taken, allMarks}
 use Rattle.theorems.specs.StationsLists.Words.{Call, outcome, left, Accepted, Handed, handMarks, handsOver, handed}
 use Rattle.theorems.specs.StationsLists.OneCall.{tried, Good, good-of, does}
 

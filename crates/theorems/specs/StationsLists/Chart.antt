@@ -18,9 +18,9 @@ use Rattle.rules.specs.MarksAndFrames.{Cell, Mark, stepsAt, freed}
 use Rattle.rules.specs.LayerChart.{eighths, cutsIn, chartOf, firstNan, chartRefusal, charted, chartUses, layerChartEntry}
 use Rattle.laws.specs.Floats.Tests.{order}
 use Rattle.beam.proofs.MarkLists.{marked-odds}
-use Rattle.theorems.specs.DemandThree.{headOpened, gridOpened, frameOpened, Makes, Hit, Touched, Same, Opened}
-use Rattle.theorems.specs.DemandThree.Beams.{allMarks, makes-same, hit-test, test-hit, touched-test, test-touched}
-use Rattle.theorems.specs.DemandThree.Orders.{anyCloud, anyMark, kindsOn}
+use Rattle.theorems.specs.PromiseThree.{headOpened, gridOpened, frameOpened, Makes, Hit, Touched, Same, Opened}
+use Rattle.theorems.specs.PromiseThree.Beams.{allMarks, makes-same, hit-test, test-hit, touched-test, test-touched}
+use Rattle.theorems.specs.PromiseThree.Orders.{anyCloud, anyMark, kindsOn}
 use Rattle.theorems.specs.FlatList.{is-true}
 use Rattle.theorems.specs.FloorCost.{InUnits, loneVote}
 use Rattle.theorems.specs.LayerChart.Order.{eighths-more}

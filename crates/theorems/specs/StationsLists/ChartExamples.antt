@@ -9,9 +9,9 @@ use Rattle.rules.specs.RefusalNumbers.{given}
 use Rattle.rules.specs.RefusalNumbers.Entries.{Outcome}
 use Rattle.rules.specs.TheGridAndItsBounds.{Model, Head, Grid, layerOf}
 use Rattle.rules.specs.LayerChart.{reached, eighths, bandCover, stacked, cellsBetween, columnChart, chartOf, anyNan, firstNan, chartRefusal, charted, layerChartEntry}
-use Rattle.theorems.specs.DemandThree.{headOpened, gridOpened, Opened, ofUnits}
-use Rattle.theorems.specs.DemandThree.AsTests.{opened-holds, every-at}
-use Rattle.theorems.specs.DemandThree.Examples.{plus, minus, head3, opened}
+use Rattle.theorems.specs.PromiseThree.{headOpened, gridOpened, Opened, ofUnits}
+use Rattle.theorems.specs.PromiseThree.AsTests.{opened-holds, every-at}
+use Rattle.theorems.specs.PromiseThree.Examples.{plus, minus, head3, opened}
 use Rattle.theorems.specs.FloorCost.{InUnits}
 use Rattle.theorems.specs.StationsLists.Words.{Call, night, NoneRefused}
 use Rattle.theorems.specs.StationsLists.Examples.{accepted, list, structs, openedEntries}

@@ -8,7 +8,7 @@ use Rattle.rules.specs.RefusalNumbers.{given}
 use Rattle.rules.specs.TheGridAndItsBounds.{Head, Grid, cells}
 use Rattle.rules.specs.MarksAndFrames.{stepsAt, freed}
 use Rattle.rules.specs.LayerChart.{layerChartEntry}
-use Rattle.theorems.specs.DemandThree.{Hit, Touched}
+use Rattle.theorems.specs.PromiseThree.{Hit, Touched}
 use Rattle.theorems.specs.FloorCost.{loneVote}
 use Rattle.theorems.specs.LayerChart.{NoneAbove}
 use Rattle.theorems.specs.StationsLists.Words.{Handed, handMarks}

@@ -16,9 +16,9 @@ use Rattle.rules.specs.OneBeam.{allBits, flatShape, beamsOf}
 use Rattle.rules.specs.Fields.{littleEndian, fromLittleEndian, field, fieldHere, floatBytes, floatsIn}
 use Rattle.rules.specs.SweepFile.{beamBytes, beamsBytes, sweepBytes, beamHere, beamIn, sweepEndIn, beamsIn, stationIn, sweepOf, updateSweepEntry}
 use Rattle.rules.specs.VerticalBeam.{inProfile, columnPlace, columnMarks, endsOccupied, cellsAbove, verticalMarks, updateVerticalEntry}
-use Rattle.theorems.specs.DemandThree.{headOpened, gridOpened, Opened, Multiples}
-use Rattle.theorems.specs.DemandThree.AsTests.{isGiven, is-given, opened-holds, multiples-hold}
-use Rattle.theorems.specs.DemandThree.Examples.{plus, head3, grid3, cloud, clear, opened}
+use Rattle.theorems.specs.PromiseThree.{headOpened, gridOpened, Opened, Multiples}
+use Rattle.theorems.specs.PromiseThree.AsTests.{isGiven, is-given, opened-holds, multiples-hold}
+use Rattle.theorems.specs.PromiseThree.Examples.{plus, head3, grid3, cloud, clear, opened}
 use Rattle.theorems.specs.StationsLists.Words.{Call, ray, flat-list, slice, file, upright, mark, outcome, Accepted, night, NoneRefused}
 
 -- none is refused, as a test

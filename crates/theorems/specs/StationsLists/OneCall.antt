@@ -21,7 +21,7 @@ use Rattle.rules.specs.OneBeam.{Beam, beamMarks, integratedMarks, integratedBea
 use Rattle.rules.specs.SweepFile.{Sweep, Swept, sweepOf, sweepAnswer, updateSweepEntry}
 use Rattle.rules.specs.VerticalBeam.{Vertical, inProfile, updateVerticalEntry}
 use Rattle.beam.proofs.MarkLists.{marked-append}
-use Rattle.theorems.specs.DemandThree.Beams.{marksGiven, Taken, allMarks, given-a-count, grid-is}
+use Rattle.theorems.specs.PromiseThree.Beams.{marksGiven, Taken, allMarks, given-a-count, grid-is}
 use Rattle.theorems.specs.FlatList.{flat-as-structs}
 use Rattle.theorems.specs.VerticalBeam.{generalBeam}
 use Rattle.theorems.specs.VerticalBeam.Proof.{same-as-general}

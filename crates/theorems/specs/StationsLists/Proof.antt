@@ -4,9 +4,9 @@ use mathlib.Core.Path.{_≡_, sym, ap, _∙_, subst}
 use mathlib.Core.List.{List}
 use lib.Ieee.{Format}
 use Rattle.rules.specs.TheGridAndItsBounds.{Head, Grid}
-use Rattle.theorems.specs.DemandThree.{headOpened, gridOpened, Same, Opened, Ends}
-use Rattle.theorems.specs.DemandThree.Proof.{marksLeave, stamps-same, odds-same}
-use Rattle.theorems.specs.DemandThree.Proof as Marks
+use Rattle.theorems.specs.PromiseThree.{headOpened, gridOpened, Same, Opened, Ends}
+use Rattle.theorems.specs.PromiseThree.Proof.{marksLeave, stamps-same, odds-same}
+use Rattle.theorems.specs.PromiseThree.Proof as Marks
 use Rattle.theorems.specs.FloorCost.{InUnits, FloorCost}
 use Rattle.theorems.specs.FloorCost.Proof.{ends-cost}
 use Rattle.theorems.specs.StationsLists.Words.{Call, Handed, handMarks, handed, night, NoneRefused, SameMap, AsGood}

@@ -15,7 +15,7 @@ use Rattle.rules.specs.MarksAndFrames.{Mark}
 use Rattle.rules.specs.OneBeam.{Beam, beamMarks, beamsOf}
 use Rattle.rules.specs.SweepFile.{Sweep, Swept, sweepOf, updateSweepEntry}
 use Rattle.rules.specs.VerticalBeam.{Vertical, updateVerticalEntry}
-use Rattle.theorems.specs.DemandThree.{headOpened, gridOpened, Multiples}
+use Rattle.theorems.specs.PromiseThree.{headOpened, gridOpened, Multiples}
 use Rattle.theorems.specs.VerticalBeam.{generalBeam}
 
 -- ---- the calls that integrate or mark

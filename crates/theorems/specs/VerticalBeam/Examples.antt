@@ -10,7 +10,7 @@ use Rattle.rules.specs.RefusalNumbers.{given}
 use Rattle.rules.specs.RefusalNumbers.Entries.{Outcome, firstTooSmall, extentsRefusal, headRefusal, updateRayEntry}
 use Rattle.rules.specs.TheGridAndItsBounds.{Head, Grid, cutsBelow, cutsInBounds}
 use Rattle.rules.specs.VerticalBeam.{Vertical}
-use Rattle.theorems.specs.DemandThree.Examples.{plus, minus, model, opened}
+use Rattle.theorems.specs.PromiseThree.Examples.{plus, minus, model, opened}
 use Rattle.theorems.specs.VerticalBeam.{generalBeam}
 
 abbrev head : ℕ → Head

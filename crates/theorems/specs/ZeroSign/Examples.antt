@@ -13,7 +13,7 @@ use Rattle.rules.specs.Floats.{zeroF, halfF, oneF, numberF}
 use Rattle.rules.specs.RefusalNumbers.{given}
 use Rattle.rules.specs.OneBeam.{Beam, Span, Clipped, wholeSpan, largerOf, smallerOf, slabs, directions, clip, beamMarks}
 use Rattle.laws.specs.Floats.Zeros.{isZero, SameNumber}
-use Rattle.theorems.specs.DemandThree.Examples.{plus, opened}
+use Rattle.theorems.specs.PromiseThree.Examples.{plus, opened}
 use Rattle.theorems.specs.ZeroSign.Floats.{neg-zero}
 use Rattle.theorems.specs.ZeroSign.{Choice, slabsBy, clipBy, marksBy}
 

@@ -12,7 +12,7 @@ use lib.Pow.{pow-add, pow-pos, pow-mono}
 use lib.Ieee.{Float, inf, Format, binary32, binary64, prec, emax, low, round, odd, units, sum, add, sub, neg, below, level, lt, le}
 use lib.Ieee.Exact.{HasValue, round-exact}
 use Rattle.laws.specs.Floats.Tests.{and-true, order, ltb-iff, eqb-iff, eqb-both, lt-or-eq}
-use Rattle.theorems.specs.DemandThree.{places}
+use Rattle.theorems.specs.PromiseThree.{places}
 use Rattle.laws.specs.Floats.Values.{add-value, lt-value, eq-value}
 
 -- n units with the sign s

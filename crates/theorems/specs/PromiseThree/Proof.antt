@@ -15,12 +15,12 @@ use Rattle.rules.specs.TheGridAndItsBounds.{Head, Grid, cells, onePerCell}
 use Rattle.rules.specs.MarksAndFrames.{Cell, Steps, Mark, stepsAt, stampOf, freed, occupy, cellAt, marked, openedStamps, highestFrame}
 use Rattle.rules.specs.OneBeam.{Beam, beamMarks}
 use Rattle.laws.specs.Floats.Tests.{bool-ext}
-use Rattle.theorems.specs.DemandThree.TakeBack.{alone}
-use Rattle.theorems.specs.DemandThree.Orders.{runs, anyCloud, anyMark, kindsOn, Sized, cleared, clouded, restored, marked-sized, marked-cell, back-step, no-marks}
-use Rattle.theorems.specs.DemandThree.Orders.{clear-marks, cloud-marks, stamp-is, odds-are}
-use Rattle.theorems.specs.DemandThree.Beams.{Taken, allMarks, given-a-count, grid-is, makes-same, hit-test, test-hit, touched-test, test-touched}
-use Rattle.theorems.specs.DemandThree.OneCell.{exact}
-use Rattle.theorems.specs.DemandThree.{frameOpened, gridOpened, sweep, Hit, Touched, Same, Opened, Sweep, Multiples, cloudAlone, cloudAfterClear, Ends, Settled}
+use Rattle.theorems.specs.PromiseThree.TakeBack.{alone}
+use Rattle.theorems.specs.PromiseThree.Orders.{runs, anyCloud, anyMark, kindsOn, Sized, cleared, clouded, restored, marked-sized, marked-cell, back-step, no-marks}
+use Rattle.theorems.specs.PromiseThree.Orders.{clear-marks, cloud-marks, stamp-is, odds-are}
+use Rattle.theorems.specs.PromiseThree.Beams.{Taken, allMarks, given-a-count, grid-is, makes-same, hit-test, test-hit, touched-test, test-touched}
+use Rattle.theorems.specs.PromiseThree.OneCell.{exact}
+use Rattle.theorems.specs.PromiseThree.{frameOpened, gridOpened, sweep, Hit, Touched, Same, Opened, Sweep, Multiples, cloudAlone, cloudAfterClear, Ends, Settled}
 
 -- ---- permutations and repeats are the same beams
 perm-mem : {A : Type 0} {bs cs : List A} (b : A) → List·Permᴰ bs cs → List·Memᴰ b bs → List·Memᴰ b cs
@@ -188,8 +188,8 @@ module _ (f : Format) (h : Head) (g : Grid) (bs : List Beam) (p : Sweep f h g bs
       ap (λ (x : Grid). x .odds) (list-leaves bs (p .taken)) ∙ odds-same f h g (p .opened) marksOf bs cs e m
       ∙ ap (λ (x : Grid). x .odds) (sym (list-leaves cs (λ b d. p .taken b (e .back b d))))
 
-  pub demand-three : Settled f h g bs
-  demand-three =
+  pub promise-three : Settled f h g bs
+  promise-three =
       record {
         given-a-count = given-a-count f (h .extents) (h .model) (frameOpened h) bs (gridOpened h g) (p .taken);
         ends = subst (Ends f h g marksOf bs) (sym (list-leaves bs (p .taken))) (ends f h g (p .opened) marksOf bs);

@@ -16,10 +16,10 @@ use Rattle.rules.specs.TheGridAndItsBounds.{Pair, Model, mostSize, pairBounded,
 use Rattle.rules.specs.MarksAndFrames.{Steps, pairFor, stepsAt, freed}
 use Rattle.marks.proofs.BandLaws.{pair-passes}
 use Rattle.laws.specs.Floats.Tests.{or-cases}
-use Rattle.theorems.specs.DemandThree.Dyadic.{Units, Signed, dif, at, dif-units, dif-sub, neg-units-are, units-val, lt-signed, le-signed}
-use Rattle.theorems.specs.DemandThree.Multiple.{many, negative, multiple-units, plus, less, own-value}
-use Rattle.theorems.specs.DemandThree.TakeBack.{alone, takenBack, most, most-fits, StepUnits, units-dif, take-back}
-use Rattle.theorems.specs.DemandThree.{places, multiple, oddsWithin, ofUnits, largestSize, pairOfUnits, modelOfUnits, clearOfFloor}
+use Rattle.theorems.specs.PromiseThree.Dyadic.{Units, Signed, dif, at, dif-units, dif-sub, neg-units-are, units-val, lt-signed, le-signed}
+use Rattle.theorems.specs.PromiseThree.Multiple.{many, negative, multiple-units, plus, less, own-value}
+use Rattle.theorems.specs.PromiseThree.TakeBack.{alone, takenBack, most, most-fits, StepUnits, units-dif, take-back}
+use Rattle.theorems.specs.PromiseThree.{places, multiple, oddsWithin, ofUnits, largestSize, pairOfUnits, modelOfUnits, clearOfFloor}
 
 largest-value : (f : Format) → HasValue (largestSize f) false (most f) (2 ^ places f)
 largest-value binary32 = (refl, refl)

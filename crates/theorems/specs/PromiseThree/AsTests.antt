@@ -15,8 +15,8 @@ use Rattle.rules.specs.RefusalNumbers.{Answer, given, refused}
 use Rattle.rules.specs.TheGridAndItsBounds.{Head, Grid, cells, extentsInBounds, bounded, onePerCell}
 use Rattle.rules.specs.MarksAndFrames.{stepsAt, frameOf}
 use Rattle.rules.specs.OneBeam.{Beam, beamMarks}
-use Rattle.theorems.specs.DemandThree.Proof.{opened-length}
-use Rattle.theorems.specs.DemandThree.{frameOpened, gridOpened, Opened, Sweep, Multiples, oddsWithin, ofUnits, modelOfUnits, clearOfFloor}
+use Rattle.theorems.specs.PromiseThree.Proof.{opened-length}
+use Rattle.theorems.specs.PromiseThree.{frameOpened, gridOpened, Opened, Sweep, Multiples, oddsWithin, ofUnits, modelOfUnits, clearOfFloor}
 
 abbrev pub every : {A : Type 0} → (A → Bool) → List A → Bool
 every test [] = true

@@ -1,5 +1,5 @@
 -- Promise 3, what it says: in which order the beams of a sweep come, and how often each, does not matter. The premises are one record and the
--- conclusions another; above them stand the few words they are said in, beside the rules'. `DemandThree.Proof` has the theorem. Definitions only.
+-- conclusions another; above them stand the few words they are said in, beside the rules'. `PromiseThree.Proof` has the theorem. Definitions only.
 pub mod Dyadic
 pub mod Multiple
 pub mod TakeBack

@@ -11,9 +11,9 @@ use Rattle.rules.specs.Floats.{zeroF, halfF}
 use Rattle.rules.specs.TheGridAndItsBounds.{Model, plainModel, Head, Grid}
 use Rattle.rules.specs.MarksAndFrames.{cellAt}
 use Rattle.rules.specs.OneBeam.{Beam}
-use Rattle.theorems.specs.DemandThree.{sweep}
-use Rattle.theorems.specs.DemandThree.AsTests.{sweepTests, multiplesTests}
-use Rattle.theorems.specs.DemandThree.Examples.{plus, minus, model, head2, cloud, clear, opened}
+use Rattle.theorems.specs.PromiseThree.{sweep}
+use Rattle.theorems.specs.PromiseThree.AsTests.{sweepTests, multiplesTests}
+use Rattle.theorems.specs.PromiseThree.Examples.{plus, minus, model, head2, cloud, clear, opened}
 
 -- a map of 2 by 2 with these odds at cell 1 and zero elsewhere
 abbrev lent : Float → ℕ → Grid

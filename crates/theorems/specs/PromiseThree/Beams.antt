@@ -16,8 +16,8 @@ use Rattle.rules.specs.MarksAndFrames.{Mark, marked, changes}
 use Rattle.rules.specs.OneBeam.{Beam, Integrated, beamMarks, integratedMarks, integratedBeam, integratedFrom, integrated, orStop}
 use Rattle.laws.specs.Floats.Tests.{or-cases, or-r}
 use Rattle.beam.proofs.MarkLists.{marked-append}
-use Rattle.theorems.specs.DemandThree.Orders.{anyCloud, anyMark, kindsOn}
-use Rattle.theorems.specs.DemandThree.{Makes, Hit, Touched}
+use Rattle.theorems.specs.PromiseThree.Orders.{anyCloud, anyMark, kindsOn}
+use Rattle.theorems.specs.PromiseThree.{Makes, Hit, Touched}
 
 -- the marks of an answer, and of a list of beams
 abbrev pub marksGiven : Answer (List Mark) → List Mark

@@ -16,8 +16,8 @@ use Rattle.rules.specs.RefusalNumbers.Entries.{firstTooSmall, extentsRefusal, h
 use Rattle.rules.specs.TheGridAndItsBounds.{Head, Grid, leastExtent, allAtLeast, fitsCapacity, extentsInBounds, bounded, cutsInBounds, onePerCell}
 use Rattle.rules.specs.MarksAndFrames.{highestFrame, openFrame, openedFrame}
 use Rattle.rules.specs.OneBeam.{Beam, flatShape, beamsOf}
-use Rattle.theorems.specs.DemandThree.{Opened, Sweep, headOpened, gridOpened, sweep}
-use Rattle.theorems.specs.DemandThree.Proof.{opened-length}
+use Rattle.theorems.specs.PromiseThree.{Opened, Sweep, headOpened, gridOpened, sweep}
+use Rattle.theorems.specs.PromiseThree.Proof.{opened-length}
 use Rattle.theorems.specs.FlatList.{is-true, flat-as-structs}
 
 none-too-small : (k : ℕ) (es : List ℕ) → T (allAtLeast leastExtent es) → firstTooSmall k es ≡ none

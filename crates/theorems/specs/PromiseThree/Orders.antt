@@ -15,7 +15,7 @@ use lib.Ieee.{Float, nan, Format, le, sub}
 use Rattle.rules.specs.TheGridAndItsBounds.{Model, Grid}
 use Rattle.rules.specs.MarksAndFrames.{Steps, Cell, Mark, stepsAt, stampOf, frameOf, unmarked, freed, markFree, occupiedStep, occupy, markOccupied, markCell}
 use Rattle.rules.specs.MarksAndFrames.{cellAt, withCell, markAt, marked}
-use Rattle.theorems.specs.DemandThree.TakeBack.{alone, takenBack}
+use Rattle.theorems.specs.PromiseThree.TakeBack.{alone, takenBack}
 
 -- ---- one cell: the marks on it, by their kinds
 pub runs : Format → Steps → ℕ → List Bool → Cell → Cell

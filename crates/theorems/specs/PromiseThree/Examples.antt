@@ -15,8 +15,8 @@ use Rattle.rules.specs.MarksAndFrames.{stepsAt, stampOf, clamp, limited, freed,
 use Rattle.rules.specs.MarksAndFrames.{highestFrame, openedFrame, openedStamps, openFrame}
 use Rattle.rules.specs.OneBeam.{Beam, largerOf, smallerOf, cutTo, slab, slabs, directions, pointAt, bothBeyond, allWithin, isInside, clampAxis, clampPoint}
 use Rattle.rules.specs.OneBeam.{clippedAt, clip, marksAlong, marksBetween, beamMarks, integratedBeam, integratedFrom, integrated}
-use Rattle.theorems.specs.DemandThree.{Sweep, Multiples, multiple, oddsWithin, ofUnits, pairOfUnits, modelOfUnits, clearOfFloor}
-use Rattle.theorems.specs.DemandThree.AsTests.{sweep-holds, multiples-hold}
+use Rattle.theorems.specs.PromiseThree.{Sweep, Multiples, multiple, oddsWithin, ofUnits, pairOfUnits, modelOfUnits, clearOfFloor}
+use Rattle.theorems.specs.PromiseThree.AsTests.{sweep-holds, multiples-hold}
 
 -- the binary64 number nearest to n / d, and to - n / d
 abbrev pub plus : ℕ → ℕ → Float

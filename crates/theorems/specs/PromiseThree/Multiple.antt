@@ -10,8 +10,8 @@ use lib.Ieee.{Float, nan, inf, fin, Format, prec, up, down, fits}
 use lib.Ieee.Fits.{round-fits}
 use lib.Ieee.Exact.{HasValue}
 use Rattle.laws.specs.Floats.OneForm.{value-unique}
-use Rattle.theorems.specs.DemandThree.Dyadic.{Units, Signed, at, at-val}
-use Rattle.theorems.specs.DemandThree.{places, multiple}
+use Rattle.theorems.specs.PromiseThree.Dyadic.{Units, Signed, at, at-val}
+use Rattle.theorems.specs.PromiseThree.{places, multiple}
 
 -- how many units, and the sign
 abbrev pub many : Format → Float → ℕ

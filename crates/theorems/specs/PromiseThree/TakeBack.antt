@@ -10,7 +10,7 @@ use lib.Dec.{ltb, lit≤}
 use lib.Ieee.{Float, Format, binary32, binary64, prec, add, sub, neg, le}
 use Rattle.rules.specs.MarksAndFrames.{Steps, clamp, limited, freed, occupy}
 use Rattle.laws.specs.Floats.Tests.{order}
-use Rattle.theorems.specs.DemandThree.Dyadic.{Units, Signed, dif, at, dif-neg, dif-pos, dif-same, dif-units, add-dif, neg-units-are, lt-units, le-units}
+use Rattle.theorems.specs.PromiseThree.Dyadic.{Units, Signed, dif, at, dif-neg, dif-pos, dif-same, dif-units, add-dif, neg-units-are, lt-units, le-units}
 
 -- the odds after a cloud mark alone, and after one that takes back a clear mark of this frame
 abbrev pub alone : Format → Steps → Float → Float
