@@ -1,4 +1,4 @@
-//! Refusals that document 01 adds and the original has not: bad heads (1, 2, 3, 9), lists of a wrong length (4), flat
+//! Refusals that the requirements add and the original has not: bad heads (1, 2, 3, 9), lists of a wrong length (4), flat
 //! lists that are no list of beams (8). Several faults meet in one call; the first by the document's order is to be
 //! answered, what was asked for is to be 0, and no list may change.
 
@@ -150,7 +150,7 @@ fn refused<const N: usize>(
     let Some(want) = input.first(uses) else { return Ok(()) };
     let before = (answers::bits_of(&input.odds), input.stamps.clone());
     tally.added += 1;
-    call(input, want).map_err(|why| format!("{name}\n{why} (by document 01)"))?;
+    call(input, want).map_err(|why| format!("{name}\n{why} (by the requirements)"))?;
     if before == (answers::bits_of(&input.odds), input.stamps.clone()) {
         return Ok(());
     }

@@ -30,7 +30,7 @@ pub fn odd_frame<L: Face<N>, const N: usize>(rng: &mut Rng, tally: &mut Tally) -
     work.reset::<L>().map_err(told)
 }
 
-/// A new map. Extents above document 01's bounds, which the original does not have, are to be refused with 2.
+/// A new map. Extents above the requirements' bounds, which the original does not have, are to be refused with 2.
 pub fn new_map<L: Face<N>, const N: usize>(rng: &mut Rng, tally: &mut Tally) -> Verdict {
     let extents: [usize; N] = new_extents(rng);
     let model = draw::model(rng);

@@ -11,7 +11,7 @@ use crate::ffi::{
 /// Nothing, or what differs, in words.
 pub type Verdict = Result<(), String>;
 
-/// The answer as document 01 numbers it.
+/// The answer as the requirements number it.
 pub fn refusal_of(error: RustError) -> Refusal {
     let none = Refusal::default();
     match error {
@@ -24,7 +24,7 @@ pub fn refusal_of(error: RustError) -> Refusal {
         }
         RustError::NonFiniteCoordinate { axis } => Refusal { number: 6, values: 1, axis: axis as u64, ..none },
         RustError::Ray => Refusal { number: 7, ..none },
-        RustError::Other => panic!("the original gave an answer that document 01 leaves out"),
+        RustError::Other => panic!("the original gave an answer that the requirements leave out"),
     }
 }
 

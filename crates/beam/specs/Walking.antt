@@ -1,5 +1,5 @@
--- How far a walk along a line has come, over lines of any number of axes, in every format: whatever the rest of the line does to the lists as they
--- stand, the whole line does to the lists as they were. Definitions only.
+-- How far a walk along a line has come, over lines of any number of axes, in every format: whatever the rest of the
+-- line does to the lists as they stand, the whole line does to the lists as they were. Definitions only.
 use Prim.Native.Nat.{ℕ, _+_, _≤_}
 use mathlib.Core.Bool.{Bool}
 use mathlib.Core.List.{List}

@@ -1,4 +1,5 @@
-// One beam: its points tried, clipped to the map, and walked along. The original's update_ray, on a head that has passed its checks.
+// One beam: its points tried, clipped to the map, and walked along. The original's update_ray, on a head that has
+// passed its checks.
 ghost use mathlib.Core.Path.{_≡_};
 ghost use mathlib.Core.Bool.{_&&_};
 ghost use lib.Ieee.{binary64};
@@ -40,7 +41,8 @@ fn both(a: bool, b: bool) -> bool
     false
 }
 
-// What clipping left of a beam: nothing, or a line to walk along. The head has passed its checks: the entries refuse others.
+// What clipping left of a beam: nothing, or a line to walk along. The head has passed its checks: the entries refuse
+// others.
 fn integrate_clipped2(
     map: GridMap2,
     odds: &mut [f64],
@@ -88,7 +90,8 @@ pub fn integrate2(
     }
 }
 
-// What clipping left of a beam: nothing, or a line to walk along. The head has passed its checks: the entries refuse others.
+// What clipping left of a beam: nothing, or a line to walk along. The head has passed its checks: the entries refuse
+// others.
 fn integrate_clipped3(
     map: GridMap3,
     odds: &mut [f64],

@@ -1,5 +1,6 @@
-// The first part of a walk, cell by whole number: as long as each axis is followed and its cell on the grid, the cells before the last are
-// marked free with nothing truncated. Where that ends, `walk` goes on step by step, which is what this part is proved to do faster.
+// The first part of a walk, cell by whole number: as long as each axis is followed and its cell on the grid, the cells
+// before the last are marked free with nothing truncated. Where that ends, `walk` goes on step by step, which is what
+// this part is proved to do faster.
 ghost use Prim.Native.Nat.{_≤_};
 ghost use lib.Ieee.{binary64};
 ghost use lib.ListN.{length};

@@ -1,4 +1,5 @@
-// One mark: by place, and whether it changed the cell; the same, counted; and by cell, where one off the grid is skipped.
+// One mark: by place, and whether it changed the cell; the same, counted; and by cell, where one off the grid is
+// skipped.
 ghost use Prim.Native.Nat.{_<_, _≤_};
 ghost use lib.Ieee.{binary64};
 ghost use lib.ListN.{length};
@@ -25,7 +26,8 @@ use types::Cell3;
 use types::Frame;
 use types::Model;
 
-// The place is one of the lists', and the frame one that a sweep can have: whoever calls has checked the head and found the place.
+// The place is one of the lists', and the frame one that a sweep can have: whoever calls has checked the head and found
+// the place.
 pub fn mark_place(
     odds: &mut [f64],
     stamps: &mut [u32],
@@ -61,7 +63,8 @@ pub fn mark_place3(
     mark_place(odds, stamps, at, model, map.frame, occupied)
 }
 
-// A mark as the walks add it up: one where it changed the cell. Place and frame as above. A branch: the walks took a tenth longer with a cast of the bool.
+// A mark as the walks add it up: one where it changed the cell. Place and frame as above. A branch: the walks took a
+// tenth longer with a cast of the bool.
 pub fn mark_counted(
     odds: &mut [f64],
     stamps: &mut [u32],
@@ -98,7 +101,8 @@ pub fn mark_counted3(
     0
 }
 
-// A head that has passed its checks, with lists of one number per cell: the entries refuse others with 1 to 4, 9 and 15.
+// A head that has passed its checks, with lists of one number per cell: the entries refuse others with 1 to 4, 9 and
+// 15.
 pub fn mark_cell2(
     map: GridMap2,
     odds: &mut [f64],

@@ -88,8 +88,8 @@ fn walk3(
     count
 }
 
-// The same, faster, along a line that the plotter drew: the part that can be followed by whole numbers, and then the last cell; step by step where more is
-// left. On a head that has passed its checks, as `integrate2` requires.
+// The same, faster, along a line that the plotter drew: the part that can be followed by whole numbers, and then the
+// last cell; step by step where more is left. On a head that has passed its checks, as `integrate2` requires.
 pub fn walk_drawn2(
     map: GridMap2,
     odds: &mut [f64],

@@ -1,5 +1,5 @@
-// What a line does along one axis, written once for any number of axes: how an axis is set up between two coordinates, and how it moves.
-// Which axes a line has, and when it ends, is left to `line`.
+// What a line does along one axis, written once for any number of axes: how an axis is set up between two coordinates,
+// and how it moves. Which axes a line has, and when it ends, is left to `line`.
 ghost use mathlib.Core.Path.{_≡_};
 ghost use lib.Ieee.{binary64};
 ghost use Rattle.rules.specs.TheLine as TheLine;

@@ -1,5 +1,6 @@
-// The cell of an axis as a whole number beside its coordinate: where the coordinate steps on by 1.0, the cell steps on by one, and nothing
-// has to be truncated. Right as long as rounding cannot carry the coordinate across a face: `floats` says from where on.
+// The cell of an axis as a whole number beside its coordinate: where the coordinate steps on by 1.0, the cell steps on
+// by one, and nothing has to be truncated. Right as long as rounding cannot carry the coordinate across a face:
+// `floats` says from where on.
 ghost use Prim.Native.Nat.{_≤_};
 ghost use lib.Ieee.{binary64, add};
 ghost use Rattle.rules.specs.TheLine as TheLine;
@@ -11,8 +12,8 @@ use crate::axis::Axis;
 use crate::axis::moves;
 use floats::NOT_FOLLOWED;
 
-// The cell one step on, up or down. Below cell 0 a coordinate is no longer followed. The cell is one of a grid's, and the coordinate in it:
-// the walk has tested the one and keeps the other.
+// The cell one step on, up or down. Below cell 0 a coordinate is no longer followed. The cell is one of a grid's, and
+// the coordinate in it: the walk has tested the one and keeps the other.
 fn cell_beside(cell: u64, current: f64, step: f64) -> u64
     requires { ⌜ cell ≤ mostExtent ⌝ ∗ ⌜ Inside binary64 cell current ⌝ ∗ ⌜ WholeStep step ⌝ }
     ensures { λ r. ⌜ Followed binary64 r (add binary64 current step) ⌝ }

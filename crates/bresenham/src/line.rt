@@ -1,5 +1,6 @@
-// The line plotter for two and three axes: a line is made between two points, and a step by value gives a cell and the line after it.
-// What happens along an axis is `axis`'s; a function here only joins the axes, so those of two and three axes differ by one call.
+// The line plotter for two and three axes: a line is made between two points, and a step by value gives a cell and the
+// line after it. What happens along an axis is `axis`'s; a function here only joins the axes, so those of two and three
+// axes differ by one call.
 ghost use mathlib.Core.Path.{_≡_};
 ghost use Prim.Native.Nat.{_<_};
 ghost use lib.Ieee.{binary64};
@@ -24,8 +25,8 @@ use types::Point2;
 use types::Point3;
 use types::Refusal;
 
-// The cells of a line that are still to come. It goes from the start to the end, whichever way that is, and always yields at least
-// one cell: where both points fall within one step, that cell is the end's.
+// The cells of a line that are still to come. It goes from the start to the end, whichever way that is, and always
+// yields at least one cell: where both points fall within one step, that cell is the end's.
 #[repr(C)]
 pub struct BresenhamLine2 {
     pub x: Axis,

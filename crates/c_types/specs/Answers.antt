@@ -1,4 +1,5 @@
--- Each entry's answer as the struct that C sees; and what a contract of the C face says of an entry that writes. Definitions only.
+-- Each entry's answer as the struct that C sees; and what a contract of the C face says of an entry that writes.
+-- Definitions only.
 use Prim.Native.Nat.{ℕ}
 use mathlib.Core.Path.{_≡_}
 use mathlib.Core.Bool.{Bool, true, false}

@@ -1,4 +1,4 @@
--- A refusal of document 01, its number and its values, as the struct that C sees. Definitions only.
+-- A refusal of the requirements, its number and its values, as the struct that C sees. Definitions only.
 use Prim.Native.Nat.{ℕ}
 use mathlib.Core.Bool.{cond}
 use mathlib.Core.List.{List, [], _∷_}

@@ -1,5 +1,5 @@
-// The answers that hold a place on a map of three axes. Where a call is refused, what was asked for is 0 throughout; a map of zeros is one
-// that every entry refuses with 1.
+// The answers that hold a place on a map of three axes. Where a call is refused, what was asked for is 0 throughout; a
+// map of zeros is one that every entry refuses with 1.
 ghost use mathlib.Core.Path.{_≡_};
 ghost use Rattle.types.specs.Answers.{cellAnswer3, sampleRead3, sampleAnswer3};
 ghost use Rattle.grid_map.specs.Heads.{mapAnswer3};

@@ -1,5 +1,5 @@
-// The columns one after another: first for NaN, then for the chart. Column (x, y) is number x + y * extent x, and its cells lie as far
-// apart in the lent odds as there are columns.
+// The columns one after another: first for NaN, then for the chart. Column (x, y) is number x + y * extent x, and its
+// cells lie as far apart in the lent odds as there are columns.
 ghost use mathlib.Core.Path.{_≡_};
 ghost use mathlib.Core.Bool.{true};
 ghost use mathlib.Core.List.{_++_};
@@ -70,8 +70,8 @@ fn fill(odds: &[f64], columns: usize, layers: usize, ceiling: f64, cuts: Cuts, c
     }
 }
 
-// The chart of a map whose head has passed its checks and whose cuts are good: the entry refuses others with 1, 2, 3, 15 and 4. All that is
-// refused here is tried before the first number is written.
+// The chart of a map whose head has passed its checks and whose cuts are good: the entry refuses others with 1, 2, 3,
+// 15 and 4. All that is refused here is tried before the first number is written.
 pub fn chart_of(
     extents: Extents3,
     ceiling: f64,

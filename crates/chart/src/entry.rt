@@ -1,5 +1,5 @@
-// The entries. A map of three axes has a chart; one of two has no cuts and is refused. The head is checked as far as it is used: the ceiling and the
-// cuts, which are the model's, and the odds.
+// The entries. A map of three axes has a chart; one of two has no cuts and is refused. The head is checked as far as it
+// is used: the ceiling and the cuts, which are the model's, and the odds.
 ghost use mathlib.Core.Path.{_≡_};
 ghost use Rattle.rules.specs.LayerChart.{layerChartEntry, noCutsEntry};
 ghost use Rattle.grid_map.specs.Heads.{head2, head3};
@@ -26,8 +26,8 @@ const NO_CHART: Uses = Uses {
     frame: false,
 };
 
-// The chart, five numbers a column from the first of the list on: the low, middle and high band and the total by maximum overlap, each
-// of 8, and the total by random overlap, of 512. What follows them in the list stays.
+// The chart, five numbers a column from the first of the list on: the low, middle and high band and the total by
+// maximum overlap, each of 8, and the total by random overlap, of 512. What follows them in the list stays.
 pub fn layer_chart3(map: GridMap3, odds: &[f64], chart: &mut [u16]) -> SetAnswer
     ensures { λ r. ⌜ chartOutcome r (now (chart .exit)) ≡ layerChartEntry (head3 map) (now (odds .entry)) (now (chart .entry)) ⌝ }
 {

@@ -34,8 +34,8 @@ fn cell_eighths(ceiling: f64, odds: f64) -> u16
                             + at_limit(odds, 1.9459101490553132))))))
 }
 
-// The largest cell of a column from one height up to below another, from the top down. Column and heights are the map's: the lent odds
-// have a number for each cell under `to`.
+// The largest cell of a column from one height up to below another, from the top down. Column and heights are the
+// map's: the lent odds have a number for each cell under `to`.
 pub fn band_cover(
     odds: &[f64],
     ceiling: f64,

@@ -1,5 +1,6 @@
-// The layer chart of a map of three axes: per column, the cover of the low, middle and high band in eighths, and the total by maximum and
-// by random overlap. It knows the grid by its promises: where a cell's odds stand, and what a head that has passed its checks has shown.
+// The layer chart of a map of three axes: per column, the cover of the low, middle and high band in eighths, and the
+// total by maximum and by random overlap. It knows the grid by its promises: where a cell's odds stand, and what a head
+// that has passed its checks has shown.
 mod columns;
 mod entry;
 mod grades;

@@ -1,5 +1,5 @@
-// The two totals of a column's three bands: by maximum overlap, of 8, and by random overlap, of 512. A chart writes them, and a season's
-// report tries them.
+// The two totals of a column's three bands: by maximum overlap, of 8, and by random overlap, of 512. A chart writes
+// them, and a season's report tries them.
 ghost use mathlib.Core.Path.{_≡_};
 ghost use Prim.Native.Nat.{_≤_};
 ghost use Rattle.rules.specs.LayerChart.{larger, maximumOverlap, randomOverlap};

@@ -33,7 +33,8 @@ checkOf (Check.the-variants.Refused r) = some (refusalOf r)
 abbrev pub usesOf : Uses → Entries.Uses
 usesOf u = record { model = u .model; odds = u .odds; stamps = u .stamps; frame = u .frame }
 
--- the head's checks after those of its extents, by whether its model and its cuts are within their bounds and by the number of cells
+-- the head's checks after those of its extents, by whether its model and its cuts are within their bounds and by the
+-- number of cells
 unfoldable pub usedRefusal : Entries.Uses → Bool → Bool → ℕ → ℕ → ℕ → ℕ → Option Refusal
 usedRefusal u model cuts frame cells odds stamps =
     orElse (unlessHolds (u .model) model badModel)

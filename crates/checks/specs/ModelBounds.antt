@@ -1,4 +1,5 @@
--- A model's numbers are finite where they have their sign and size, so the tests of sign and size are all that is needed. Assumes nothing.
+-- A model's numbers are finite where they have their sign and size, so the tests of sign and size are all that is
+-- needed. Assumes nothing.
 use mathlib.Core.Bool.{Bool, true, false, _&&_, and-false}
 use mathlib.Core.Path.{_≡_, refl}
 use lib.Ieee.{Float, nan, inf, fin, lt, le, eq, neg}

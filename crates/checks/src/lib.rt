@@ -1,4 +1,5 @@
-// The checks of a map's head, in document 01's order: 1 on all axes, 2, then what the entry uses of 3, 4 and 9; by change request 6 with 15 after 3.
+// The checks of a map's head, in the requirements' order: 1 on all axes, 2, then what the entry uses of 3, 4 and 9; by
+// change request 6 with 15 after 3.
 ghost use mathlib.Core.Path.{_≡_};
 ghost use mathlib.Core.Bool.{not, _&&_};
 ghost use Rattle.rules.specs.RefusalNumbers.Entries.{extentsRefusal, headRefusal};
@@ -33,7 +34,7 @@ pub struct Uses {
     pub frame: bool,
 }
 
-// What each entry uses: document 01's "Extents are used by all; the model by ..".
+// What each entry uses: the requirements' "Extents are used by all; the model by ..".
 impl Uses {
     pub const NEW: Uses = Uses {
         model: true,

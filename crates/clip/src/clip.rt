@@ -1,5 +1,6 @@
-// Clipping a beam to the map's box by slabs. This is what bounds a beam's work: a step count follows from a length, so an absurd but finite
-// endpoint would otherwise be walked cell by cell only to be discarded. What each axis does stands in `slabs`.
+// Clipping a beam to the map's box by slabs. This is what bounds a beam's work: a step count follows from a length, so
+// an absurd but finite endpoint would otherwise be walked cell by cell only to be discarded. What each axis does stands
+// in `slabs`.
 ghost use mathlib.Core.Path.{_≡_};
 ghost use lib.Ieee.{binary64};
 ghost use Rattle.rules.specs.OneBeam as OneBeam;

@@ -1,4 +1,5 @@
-// What clipping leaves of a beam: the part of it within the map's box. The original's clip_segment and clamp_to_addressable_cell.
+// What clipping leaves of a beam: the part of it within the map's box. The original's clip_segment and
+// clamp_to_addressable_cell.
 mod clip;
 mod slabs;
 mod tried;

@@ -1,5 +1,5 @@
-// One axis's part of clipping a beam to the map: its slab, whether both ends lie beyond its upper face, the clamp, and a point of the beam.
-// `clip` joins two or three of them.
+// One axis's part of clipping a beam to the map: its slab, whether both ends lie beyond its upper face, the clamp, and
+// a point of the beam. `clip` joins two or three of them.
 ghost use mathlib.Core.Path.{_≡_};
 ghost use mathlib.Core.Bool.{_&&_};
 ghost use lib.Ieee.{binary64, le, add, mul};
@@ -66,7 +66,8 @@ pub fn slab(extent: u64, origin: f64, direction: f64, s: Span) -> Passage
     )
 }
 
-// Both ends beyond the upper face of an axis: the slabs are closed and the cells half-open, so such a beam lies within the face.
+// Both ends beyond the upper face of an axis: the slabs are closed and the cells half-open, so such a beam lies within
+// the face.
 pub fn beyond(extent: u64, entry: f64, exit: f64) -> bool
     ensures { λ r. ⌜ r ≡ (le (numberF binary64 extent) entry && le (numberF binary64 extent) exit) ⌝ }
 {

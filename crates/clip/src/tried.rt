@@ -1,6 +1,7 @@
-// A beam, tried and clipped. Any coordinate that is not finite refuses it, and that is tried before clipping: a beam that
-// misses on another axis would pass in silence. A beam that starts and ends on the map, as most do, is finite and is not
-// cut: its fractions are 0 and 1, and no slab need be worked out. Other beams go by the slabs, which stay the definition.
+// A beam, tried and clipped. Any coordinate that is not finite refuses it, and that is tried before clipping: a beam
+// that misses on another axis would pass in silence. A beam that starts and ends on the map, as most do, is finite and
+// is not cut: its fractions are 0 and 1, and no slab need be worked out. Other beams go by the slabs, which stay the
+// definition.
 ghost use mathlib.Core.Path.{_≡_};
 ghost use mathlib.Core.Bool.{cond, true, _&&_};
 ghost use mathlib.Core.Option.{some, none};
@@ -59,7 +60,8 @@ fn uncut2(extents: Extents2, origin: Point2, endpoint: Point2) -> Clip2
     )
 }
 
-// On extents that have passed their check, as `integrate2` has them: that the slabs change nothing is shown of numbers that are exact as floats.
+// On extents that have passed their check, as `integrate2` has them: that the slabs change nothing is shown of numbers
+// that are exact as floats.
 pub fn clip_beam2(extents: Extents2, origin: Point2, endpoint: Point2) -> Tried2
     requires { ⌜ AxesInBounds (extents2 extents) ⌝ }
     ensures { λ r. ⌜ tried2 r ≡ cond (allFinite (point2 origin) && allFinite (point2 endpoint))

@@ -1,6 +1,6 @@
-// Damaged records: the record of document 01's map of 2 by 2, cut at every length, and with each of its bytes changed in turn, read again. The page
-// says what reading answers each time. Before each reading the lent lists hold 9 throughout, and where it is refused they still do.
-// What it prints is held to the file `stdout`.
+// Damaged records: the record of the requirements' map of 2 by 2, cut at every length, and with each of its bytes
+// changed in turn, read again. The page says what reading answers each time. Before each reading the lent lists hold 9
+// throughout, and where it is refused they still do. What it prints is held to the file `stdout`.
 use grid_map::GridMap2;
 use grid_map::MapAnswer2;
 use libc::STDOUT_FILENO;

@@ -1,4 +1,5 @@
-// A float and its 64 bits, where NaN has one pattern: every NaN's bits are read as NaN, and NaN is written as the quiet one.
+// A float and its 64 bits, where NaN has one pattern: every NaN's bits are read as NaN, and NaN is written as the quiet
+// one.
 ghost use mathlib.Core.Path.{_≡_};
 ghost use lib.Ieee.{binary64, toBits, ofBits};
 

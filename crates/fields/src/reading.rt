@@ -1,5 +1,5 @@
-// Numbers, floats and the heads of fields, read at a place in lent bytes. Whoever reads a number has seen that its bytes are there: `field_here`
-// says so of a whole field.
+// Numbers, floats and the heads of fields, read at a place in lent bytes. Whoever reads a number has seen that its
+// bytes are there: `field_here` says so of a whole field.
 ghost use mathlib.Core.Path.{_≡_};
 ghost use Prim.Native.Nat.{_+_, _≤_};
 ghost use lib.Ieee.{binary64, ofBits};

@@ -1,5 +1,5 @@
-// Numbers, floats and the heads of fields, written at a place in lent bytes: those bytes change and no other. Whoever writes has seen that there
-// is room (refusal 11).
+// Numbers, floats and the heads of fields, written at a place in lent bytes: those bytes change and no other. Whoever
+// writes has seen that there is room (refusal 11).
 ghost use mathlib.Core.Path.{_≡_};
 ghost use mathlib.Core.List.{_∷_};
 ghost use Prim.Native.Nat.{_+_, _*_, _≤_, _<_};

@@ -1,6 +1,6 @@
-// Every figure of document 01, starred or not, run through the entries and printed with what came out; then a picture of a sweep.
-// What it prints is held to the file `stdout`. What document 01 expects stands before each outcome in brackets.
-// This room holds what all of them print with; each kind of figure has its own.
+// Every figure of the requirements, starred or not, run through the entries and printed with what came out; then a
+// picture of a sweep. What it prints is held to the file `stdout`. What the requirements expect stands before each
+// outcome in brackets. This room holds what all of them print with; each kind of figure has its own.
 use floats::count_of;
 use grid_map::GridMap2;
 use grid_map::MapAnswer2;

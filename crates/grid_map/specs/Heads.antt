@@ -1,4 +1,5 @@
--- Heads, checks and the answers that hold a head, as the rules' values; and the checks that do not depend on the axes. Definitions only.
+-- Heads, checks and the answers that hold a head, as the rules' values; and the checks that do not depend on the axes.
+-- Definitions only.
 use Prim.Native.Nat.{ℕ}
 use mathlib.Core.List.{List}
 use lib.Ieee.{Float}

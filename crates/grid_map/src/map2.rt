@@ -1,5 +1,6 @@
-// A map of two axes: its head, what stands beside the lent odds and stamps, and every entry that needs no beam. The original's GridMap, without
-// the boxes. Each entry checks the head as far as it uses it, answers for every input, and writes nothing where it refuses.
+// A map of two axes: its head, what stands beside the lent odds and stamps, and every entry that needs no beam. The
+// original's GridMap, without the boxes. Each entry checks the head as far as it uses it, answers for every input, and
+// writes nothing where it refuses.
 ghost use mathlib.Core.Path.{_≡_};
 ghost use lib.Ieee.{binary64};
 ghost use Rattle.rules.specs.RefusalNumbers.Entries.{headRefusal, newEntry, resetEntry, beginScanEntry};
@@ -97,7 +98,8 @@ impl GridMap2 {
         }
     }
 
-    // Opens a sweep: the map with the next frame. A cell takes at most one update of each kind in it, however many beams cross it.
+    // Opens a sweep: the map with the next frame. A cell takes at most one update of each kind in it, however many
+    // beams cross it.
     pub fn begin_scan(self, stamps: &mut [u32]) -> MapAnswer2
         ensures { λ r. ⌜ openOutcome2 r (now (stamps .exit)) ≡ beginScanEntry (head2 self) (now (stamps .entry)) ⌝ }
     {

@@ -1,4 +1,5 @@
--- What is known once a head has passed its checks: the tests of refusals 1, 2, 3, 4 and 9 as facts. Over any number of axes. Assumes nothing.
+-- What is known once a head has passed its checks: the tests of refusals 1, 2, 3, 4 and 9 as facts. Over any number of
+-- axes. Assumes nothing.
 use Prim.Native.Nat.{ℕ, suc, _≤_, _<_}
 use mathlib.Core.Bool.{Bool, true, false, cond}
 use mathlib.Core.List.{List, [], _∷_}

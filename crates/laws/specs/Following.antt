@@ -1,5 +1,5 @@
--- Lines as the plotter draws them, and what a step does to an axis's coordinate: for a walk that follows coordinates by whole steps. Over any
--- number of axes, in every format. Assumes nothing.
+-- Lines as the plotter draws them, and what a step does to an axis's coordinate: for a walk that follows coordinates by
+-- whole steps. Over any number of axes, in every format. Assumes nothing.
 use Prim.Native.Nat.{ℕ, zero, suc, _+_, _-_, _≤_, _<_}
 use mathlib.Core.Bool.{Bool, true, false, cond, _||_, true≢false}
 use mathlib.Core.List.{List, [], _∷_, map}

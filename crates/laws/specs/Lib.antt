@@ -1,5 +1,5 @@
--- What the proofs of code cite, over the format and the axes: two axes and three, and two widths of floats, share every law here. What no proof of code
--- cites stands in `theorems`, above the code.
+-- What the proofs of code cite, over the format and the axes: two axes and three, and two widths of floats, share every
+-- law here. What no proof of code cites stands in `theorems`, above the code.
 pub mod Floats
 pub mod Checks
 pub mod Places

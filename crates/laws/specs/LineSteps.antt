@@ -1,5 +1,5 @@
--- A line's cells, step by step: what one step gives of the cells, and of the marks of a beam along them. Over any number of axes.
--- Assumes nothing.
+-- A line's cells, step by step: what one step gives of the cells, and of the marks of a beam along them. Over any
+-- number of axes. Assumes nothing.
 use Prim.Native.Nat.{ℕ, zero, suc, _-_, _<_}
 use mathlib.Core.Bool.{Bool, true, false, cond, _||_}
 use mathlib.Core.List.{List, [], _∷_, _++_, append-nil}
@@ -115,7 +115,8 @@ pub no-cells : (f : Format) (l : Line) → l .remaining ≡ 0 → lineCells f l 
 unfolding lineCells cellsWithin
 no-cells f l r = ap (λ (n : ℕ). cellsWithin f n l) r
 
--- the mark of a step's cell, and the marks along the line after it: the last cell is the one after which nothing remains
+-- the mark of a step's cell, and the marks along the line after it: the last cell is the one after which nothing
+-- remains
 pub marks-step : (f : Format) (es : List ℕ) (last : Bool) (l m : Line) (c : List ℤ) → stepOf f l ≡ yields c m
     → marksAlong es last (lineCells f l) ≡ markOf (cond (eqb (m .remaining) 0) last false) (flatIndex es c) ++ marksAlong es last (lineCells f m)
 unfolding marksAlong

@@ -1,4 +1,5 @@
--- The code's float literals, and what it computes of them, as the rules' numbers, in both formats: each by computing. Assumes nothing.
+-- The code's float literals, and what it computes of them, as the rules' numbers, in both formats: each by computing.
+-- Assumes nothing.
 use Prim.Native.Nat.{ℕ}
 use mathlib.Core.Path.{_≡_, refl}
 use mathlib.Core.Bool.{true, false}

@@ -1,4 +1,5 @@
--- Places in the lent lists: a cell on the grid has a place below the number of cells. Over any number of axes. Assumes nothing.
+-- Places in the lent lists: a cell on the grid has a place below the number of cells. Over any number of axes. Assumes
+-- nothing.
 use Prim.Native.Nat.{ℕ, suc, _+_, _*_, _≤_, _<_}
 use mathlib.Core.Path.{_≡_, refl, sym, ap, subst, _∙_}
 use mathlib.Core.Bool.{Bool, true, false, cond, not}

@@ -1,5 +1,6 @@
--- How many marks can still change a grid in one frame: two for a cell that does not bear the frame, one for a cell marked free in it, none
--- for a cell marked occupied. Each mark that changes a cell uses one up, so counts stay below twice the number of cells. Assumes nothing.
+-- How many marks can still change a grid in one frame: two for a cell that does not bear the frame, one for a cell
+-- marked free in it, none for a cell marked occupied. Each mark that changes a cell uses one up, so counts stay below
+-- twice the number of cells. Assumes nothing.
 use Prim.Native.Nat.{ℕ, zero, suc, _+_, _*_, _/_, _≤_, _<_}
 use mathlib.Core.Bool.{Bool, true, false, cond}
 use mathlib.Core.List.{List, [], _∷_}

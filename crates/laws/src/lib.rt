@@ -1,1 +1,2 @@
-// Laws of the rules that proofs of code cite, under specs/: of every format and on any number of axes. There is no code here.
+// Laws of the rules that proofs of code cite, under specs/: of every format and on any number of axes. There is no code
+// here.

@@ -1,4 +1,5 @@
--- A head lent by reference: what opening a sweep answers, and the head and the stamps as they stand afterwards. Definitions only.
+-- A head lent by reference: what opening a sweep answers, and the head and the stamps as they stand afterwards.
+-- Definitions only.
 use Prim.Native.Nat.{ℕ}
 use mathlib.Core.List.{List}
 use Rattle.rules.specs.RefusalNumbers.{Answer, given, refused}

@@ -10,8 +10,8 @@ use types::Bands;
 use types::Extents3;
 use types::Model;
 
-// By the cell's place: one below all the layers under a cut lies below the cut, and nothing is divided. Extents and cuts have passed their checks: the
-// entries refuse others with 1, 2 and 15.
+// By the cell's place: one below all the layers under a cut lies below the cut, and nothing is divided. Extents and
+// cuts have passed their checks: the entries refuse others with 1, 2 and 15.
 pub fn model_at(extents: Extents3, bands: Bands, place: usize) -> Model
     requires { ⌜ InBounds (extents3 extents) ⌝ ∗ ⌜ T (cutsInBounds (extents3 extents) (bandsOf extents bands)) ⌝ }
     ensures { λ r. ⌜ stepsAt (modelOf r) place ≡ stepsAt (bandsOf extents bands) place ⌝ }

@@ -14,7 +14,8 @@ use types::CellRead;
 use types::Refusal;
 use types::SetAnswer;
 
-// The odds at a place, or nothing off the grid. A place that was found is one of the list's, which has one number per cell (refusal 4).
+// The odds at a place, or nothing off the grid. A place that was found is one of the list's, which has one number per
+// cell (refusal 4).
 pub fn read_at(odds: &[f64], place: Place) -> CellRead
     requires { ⌜ ((i : ℕ) → placeOf place ≡ given i → i < length (now odds)) ⌝ }
     ensures { λ r. ⌜ cellRead r ≡ readAt (now (odds .entry)) (placeOf place) ⌝ }
@@ -25,8 +26,8 @@ pub fn read_at(odds: &[f64], place: Place) -> CellRead
     }
 }
 
-// Overwrites a cell's odds, bypassing the steps and the stamp; NaN is stored as it is. Of a model its ceiling alone is used. The place is one of
-// the list's.
+// Overwrites a cell's odds, bypassing the steps and the stamp; NaN is stored as it is. Of a model its ceiling alone is
+// used. The place is one of the list's.
 pub fn set_log_odds_at(odds: &mut [f64], at: usize, ceiling: f64, x: f64)
     requires { ⌜ at < length (now odds) ⌝ }
     ensures { λ _. ⌜ ((m : Model) → m .ceiling ≡ ceiling → now (odds .exit) ≡ setOdds m at x (now (odds .entry))) ⌝ }
@@ -34,7 +35,8 @@ pub fn set_log_odds_at(odds: &mut [f64], at: usize, ceiling: f64, x: f64)
     odds[at] = clamp(-ceiling, ceiling, x);
 }
 
-// The same at a place that may be refused, for a number: NaN is refused, after the place. A place that was found is one of the list's.
+// The same at a place that may be refused, for a number: NaN is refused, after the place. A place that was found is one
+// of the list's.
 pub fn set_checked_at(odds: &mut [f64], place: Place, ceiling: f64, x: f64) -> SetAnswer
     requires { ⌜ ((i : ℕ) → placeOf place ≡ given i → i < length (now odds)) ⌝ }
     ensures { λ r. ⌜ ((m : Model) → m .ceiling ≡ ceiling

@@ -1,5 +1,5 @@
-// One mark on one cell of the lent odds and stamps: the original's mark_free_at and mark_occupied_at. A mark takes the steps and the bounds of
-// its cell as numbers, from `steps_of`; which cell it is on is `places`' to find.
+// One mark on one cell of the lent odds and stamps: the original's mark_free_at and mark_occupied_at. A mark takes the
+// steps and the bounds of its cell as numbers, from `steps_of`; which cell it is on is `places`' to find.
 ghost use mathlib.Core.Path.{_≡_};
 ghost use mathlib.Core.Bool.{true, false};
 ghost use Prim.Native.Nat.{ℕ, _<_, _≤_};
@@ -51,8 +51,9 @@ fn freed(s: Steps, odds: f64) -> f64
     clamp(s.floor, s.ceiling, odds + s.free)
 }
 
-// What an occupied mark adds. A free mark of this frame is taken back first: the free step is negative, and subtracting it adds its size
-// back. On the floor the clamp ate an unknown part of it, so nothing is taken back there. The frame is one that a sweep can have (9).
+// What an occupied mark adds. A free mark of this frame is taken back first: the free step is negative, and subtracting
+// it adds its size back. On the floor the clamp ate an unknown part of it, so nothing is taken back there. The frame is
+// one that a sweep can have (9).
 fn occupied_step(s: Steps, frame: Frame, odds: f64, stamp: Stamp) -> f64
     requires { ⌜ frame .0 ≤ Marks.highestFrame ⌝ }
     ensures { λ r. ⌜ r ≡ Marks.occupiedStep binary64 (stepsOf s) (frame .0) (cellOf odds (stamp .0)) ⌝ }
@@ -72,8 +73,8 @@ fn occupy(s: Steps, odds: f64, step: f64) -> f64
     clamp(s.floor, s.ceiling, odds + step)
 }
 
-// A cell already marked in this frame, either way, is left alone. The place is one of the lists', and the frame one that a sweep can have:
-// the entries refuse others with 5 and 9.
+// A cell already marked in this frame, either way, is left alone. The place is one of the lists', and the frame one
+// that a sweep can have: the entries refuse others with 5 and 9.
 pub fn mark_free_at(odds: &mut [f64], stamps: &mut [u32], at: usize, s: Steps, frame: Frame) -> bool
     requires { ⌜ at < length (now odds) ⌝ ∗ ⌜ at < length (now stamps) ⌝ ∗ ⌜ frame .0 ≤ Marks.highestFrame ⌝ }
     ensures { λ r. ⌜ MarkedAt binary64 false (stepsOf s) (frame .0) at
@@ -89,7 +90,8 @@ pub fn mark_free_at(odds: &mut [f64], stamps: &mut [u32], at: usize, s: Steps, f
     true
 }
 
-// A cell already marked occupied in this frame is left alone; a free mark of this frame is taken back. Place and frame as above.
+// A cell already marked occupied in this frame is left alone; a free mark of this frame is taken back. Place and frame
+// as above.
 pub fn mark_occupied_at(
     odds: &mut [f64],
     stamps: &mut [u32],

@@ -1,4 +1,5 @@
-// The cell that contains a point. Refusing is explicit, because a float cast to an integer saturates and maps NaN to zero.
+// The cell that contains a point. Refusing is explicit, because a float cast to an integer saturates and maps NaN to
+// zero.
 ghost use mathlib.Core.Path.{_≡_};
 ghost use lib.Ieee.{binary64};
 ghost use Rattle.rules.specs.Coordinates.{within as withinRule, axisContaining, cellContaining};

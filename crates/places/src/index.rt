@@ -1,5 +1,5 @@
-// Where a cell stands in the lent lists. Each axis is tested alone before it counts: testing only the sum is unsound, since an overshoot
-// on one axis lands on a valid cell of the next row.
+// Where a cell stands in the lent lists. Each axis is tested alone before it counts: testing only the sum is unsound,
+// since an overshoot on one axis lands on a valid cell of the next row.
 ghost use mathlib.Core.List.{[], _∷_};
 ghost use mathlib.Core.Path.{_≡_};
 ghost use Prim.Native.Nat.{_<_};
@@ -45,7 +45,8 @@ fn axis_at(axis: u64, index: i64, extent: u64, axes: u16) -> Along
     Along::In(index as u64)
 }
 
-// The place of a cell whose indices were tested. Extents in bounds, so that no product wraps: the entries refuse others with 1 and 2.
+// The place of a cell whose indices were tested. Extents in bounds, so that no product wraps: the entries refuse others
+// with 1 and 2.
 pub fn place_within2(extents: Extents2, x: u64, y: u64) -> usize
     requires { ⌜ InBounds (extents2 extents) ⌝ ∗ ⌜ x < extents .x ⌝ ∗ ⌜ y < extents .y ⌝ }
     ensures { λ r. ⌜ flatIndex (extents2 extents) (pos x ∷ pos y ∷ []) ≡ given r ⌝ }

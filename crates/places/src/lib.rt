@@ -1,4 +1,5 @@
-// Where a cell stands in the lent lists, and which cell contains a point. The original's translate_to_index and cell_containing.
+// Where a cell stands in the lent lists, and which cell contains a point. The original's translate_to_index and
+// cell_containing.
 mod containing;
 mod index;
 mod off;

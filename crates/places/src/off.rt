@@ -52,7 +52,8 @@ pub fn off_axes3(extents: Extents3, cell: Cell3) -> u16
     with_bit(is_off(cell.x, extents.x), yz)
 }
 
-// A coordinate and the set of those after it, which are two at most; no axis from the first coordinate on that is not finite.
+// A coordinate and the set of those after it, which are two at most; no axis from the first coordinate on that is not
+// finite.
 fn with_coordinate(extent: u64, x: f64, others: u16) -> u16
     requires { ⌜ others ≤ 3 ⌝ }
     ensures { λ r. ⌜ r ≡ cond (finite x) (withBit (not (withinRule binary64 extent x)) others) 0 ⌝ }

@@ -1,5 +1,6 @@
--- A record's refusal without its contents, which a first pass over the bytes finds; and its contents without the refusals, which a second pass takes.
--- From the model on, the first needs of the extents only the width and the number of the rows. Definitions only.
+-- A record's refusal without its contents, which a first pass over the bytes finds; and its contents without the
+-- refusals, which a second pass takes. From the model on, the first needs of the extents only the width and the number
+-- of the rows. Definitions only.
 use Prim.Native.Nat.{ℕ, _+_, _*_}
 use mathlib.Core.List.{List}
 use mathlib.Core.Option.{Option}

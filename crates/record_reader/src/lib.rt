@@ -1,4 +1,5 @@
-// Reading the map record of document 01: a map's head and odds from bytes, into lent lists, for two and three axes.
+// Reading the map record of the requirements: a map's head and odds from bytes, into lent lists, for two and three
+// axes.
 mod check;
 mod parts;
 mod reading;

@@ -116,8 +116,8 @@ fn read_sound3(bytes: &[u8], cuts: Cuts, odds: &mut [f64], stamps: &mut [u32]) -
     })
 }
 
-// A map of three axes from its record, with these cuts between its bands, all of which have the record's pair. A record of two axes is broken at its first
-// field.
+// A map of three axes from its record, with these cuts between its bands, all of which have the record's pair. A record
+// of two axes is broken at its first field.
 pub fn read_record3(bytes: &[u8], cuts: Cuts, odds: &mut [f64], stamps: &mut [u32]) -> MapAnswer3
     ensures { λ r. ⌜ mapOutcome3 r (now (odds .exit)) (now (stamps .exit))
         ≡ readRecordEntry 3 (cutsOf cuts) (now (bytes .entry)) (gridOf (now (odds .entry)) (now (stamps .entry))) ⌝ }

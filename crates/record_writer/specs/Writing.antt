@@ -1,4 +1,5 @@
--- What writing a record answers, with the bytes as they stand afterwards; and its last two refusals by the rows' width and number. Definitions only.
+-- What writing a record answers, with the bytes as they stand afterwards; and its last two refusals by the rows' width
+-- and number. Definitions only.
 use Prim.Native.Nat.{ℕ, _+_, _*_}
 use mathlib.Core.Bool.{cond}
 use mathlib.Core.List.{List, [], _++_}

@@ -1,5 +1,5 @@
-// Writing the map record of document 01, for two and three axes: the head's checks, then whether its bands have one pair
-// (10), then the odds (10), then the room (11), and only then are bytes written to what is lent.
+// Writing the map record of the requirements, for two and three axes: the head's checks, then whether its bands have
+// one pair (10), then the odds (10), then the room (11), and only then are bytes written to what is lent.
 mod arranging;
 mod parts;
 mod record2;

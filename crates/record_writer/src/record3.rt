@@ -22,7 +22,8 @@ use types::CountAnswer;
 use types::Pair;
 use types::Refusal;
 
-// Finite numbers and not zero, so that equal bits are equal numbers: the head has passed its checks where this is asked.
+// Finite numbers and not zero, so that equal bits are equal numbers: the head has passed its checks where this is
+// asked.
 fn same_pair(a: Pair, b: Pair) -> bool
     ensures { λ r. ⌜ r ≡ samePair (pairOf a) (pairOf b) ⌝ }
 {

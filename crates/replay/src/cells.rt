@@ -1,5 +1,6 @@
-// The cells of a map before and after a question. The list says how many cells changed, which, and to what. As many have to have changed;
-// and written into a copy from before, they have to make it the map as it is after: so every cell that the list does not name is as it was.
+// The cells of a map before and after a question. The list says how many cells changed, which, and to what. As many
+// have to have changed; and written into a copy from before, they have to make it the map as it is after: so every cell
+// that the list does not name is as it was.
 use crate::expecting::expect_number;
 use crate::expecting::expect_text;
 use crate::expecting::same;

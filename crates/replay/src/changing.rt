@@ -1,5 +1,5 @@
-// The questions that may change the map: each reads its words, asks the entry, and holds its answer to the list's. The frame and the cells
-// afterwards are compared for all of them at once, in `changing`.
+// The questions that may change the map: each reads its words, asks the entry, and holds its answer to the list's. The
+// frame and the cells afterwards are compared for all of them at once, in `changing`.
 use crate::beams::scan;
 use crate::cells::copy_odds;
 use crate::cells::copy_stamps;

@@ -1,5 +1,6 @@
-// Holding an answer of the entries to the list's: each function reads what the list has and spoils the cursor where it is something else.
-// Points and cells have three coordinates here, of which the third counts on maps of three axes alone.
+// Holding an answer of the entries to the list's: each function reads what the list has and spoils the cursor where it
+// is something else. Points and cells have three coordinates here, of which the third counts on maps of three axes
+// alone.
 use crate::reading::Cursor;
 use crate::reading::after_word;
 use crate::reading::agreed;
@@ -82,7 +83,8 @@ pub(crate) fn expect_cell(line: &[u8], c: Cursor, axes: u64, cell: Cell3) -> Cur
     y
 }
 
-// The refusals that the original has: 5, 6 and 7. It gives no others, so any other spoils the cursor. Of 5 it names the first axis; the set is ours.
+// The refusals that the original has: 5, 6 and 7. It gives no others, so any other spoils the cursor. Of 5 it names the
+// first axis; the set is ours.
 pub(crate) fn expect_refusal(line: &[u8], c: Cursor, r: Refusal) -> Cursor {
     let said = expect_text(line, c, b"refused");
     match r {

@@ -1,4 +1,5 @@
-// The kinds of lines: the fourteen questions, the three lines that set a map, comments, and whatever else there may be, which is malformed.
+// The kinds of lines: the fourteen questions, the three lines that set a map, comments, and whatever else there may be,
+// which is malformed.
 use crate::expecting::expect_text;
 use crate::reading::Cursor;
 

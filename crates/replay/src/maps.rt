@@ -1,5 +1,5 @@
-// The list's current map: the lines that set it, and what the questions ask of it for two and three axes alike. A map of two axes takes and
-// gives points and cells of three coordinates here; the third is not looked at.
+// The list's current map: the lines that set it, and what the questions ask of it for two and three axes alike. A map
+// of two axes takes and gives points and cells of three coordinates here; the third is not looked at.
 use crate::reading::Cursor;
 use crate::reading::agreed;
 use crate::reading::float;
@@ -145,7 +145,8 @@ fn cells_of(e: Extents3) -> usize {
     cells
 }
 
-// The original has one pair of steps, so every band has it; the cuts do not matter then, and these fit every map of the list.
+// The original has one pair of steps, so every band has it; the cuts do not matter then, and these fit every map of the
+// list.
 fn alike(occupied: f64, free: f64, ceiling: f64) -> Bands {
     let pair = Pair { occupied, free };
     let cuts = Cuts {

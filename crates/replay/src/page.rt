@@ -1,4 +1,5 @@
-// The page that is printed: how many lines of each kind there were and how many of them differ, the first that differs, and the sums.
+// The page that is printed: how many lines of each kind there were and how many of them differ, the first that differs,
+// and the sums.
 use crate::kinds::BEGIN;
 use crate::kinds::CELL;
 use crate::kinds::CLIP;

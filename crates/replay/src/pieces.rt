@@ -1,5 +1,5 @@
-// The list, read from the standard input piece by piece and replayed line by line. What is left of a piece after its last whole line is moved
-// to the front of the room for pieces, and the next piece is read behind it.
+// The list, read from the standard input piece by piece and replayed line by line. What is left of a piece after its
+// last whole line is moved to the front of the room for pieces, and the next piece is read behind it.
 ghost use Prim.Native.Nat.{_≤_, _<_};
 ghost use lib.ListN.{length};
 use crate::dispatch::State;
@@ -13,8 +13,8 @@ use libc::STDIN_FILENO;
 use std::num::wrapping_add_u64;
 use std::num::wrapping_add_usize;
 
-// How far the replay has come: the map, how many lines there were, the first of them that differs (0 for none), where in the room the next
-// line starts, and whether the list has ended.
+// How far the replay has come: the map, how many lines there were, the first of them that differs (0 for none), where
+// in the room the next line starts, and whether the list has ended.
 pub struct Progress {
     pub state: State,
     pub lines: u64,
@@ -188,8 +188,8 @@ fn broken_off(p: Progress, asked: &mut [u64], differing: &mut [u64]) -> u64 {
     earliest(p.first, wrapping_add_u64(p.lines, 1), false)
 }
 
-// The whole list, at most a thousand pieces of it: what was asked and what differs is counted by kind. Answers the number of the first line
-// that differs, or 0.
+// The whole list, at most a thousand pieces of it: what was asked and what differs is counted by kind. Answers the
+// number of the first line that differs, or 0.
 pub(crate) fn replay(asked: &mut [u64], differing: &mut [u64]) -> u64 {
     let mut room = io::large_buffer();
     let mut odds = [0.0f64; MOST];

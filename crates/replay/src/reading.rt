@@ -1,5 +1,6 @@
-// Reading a line of the list word by word. A cursor goes through the line and remembers whether all was well so far: a word that cannot be
-// read spoils it for good, and so does an answer that is not the list's. Nothing here knows what the words are about.
+// Reading a line of the list word by word. A cursor goes through the line and remembers whether all was well so far: a
+// word that cannot be read spoils it for good, and so does an answer that is not the list's. Nothing here knows what
+// the words are about.
 ghost use Prim.Native.Nat.{_≤_};
 ghost use lib.ListN.{length};
 use std::num::wrapping_add_usize;

@@ -1,4 +1,5 @@
--- What is refused without what is given; and the rows of a record: their odds without the refusals, and their refusal without the odds. Definitions only.
+-- What is refused without what is given; and the rows of a record: their odds without the refusals, and their refusal
+-- without the odds. Definitions only.
 use Prim.Native.Nat.{ℕ, zero, suc, _+_}
 use mathlib.Core.Bool.{Bool, cond}
 use mathlib.Core.List.{List, [], _++_}

@@ -47,7 +47,8 @@ fn row_in_bounds(bytes: &[u8], at: usize, width: usize, model: Model) -> bool
     true
 }
 
-// Whether a row's field stands whole at a place, with its odds within the bounds. The extents have passed, so a row is short.
+// Whether a row's field stands whole at a place, with its odds within the bounds. The extents have passed, so a row is
+// short.
 fn row_sound(bytes: &[u8], at: usize, width: usize, model: Model) -> bool
     requires { ⌜ width ≤ mostExtent ⌝ }
     ensures { λ r. ⌜ r ≡ soundHere (rowField (modelOf model) width) (drop at (now (bytes .entry))) ⌝ }

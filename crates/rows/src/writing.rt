@@ -1,4 +1,5 @@
-// Rows of odds tried before a record is written, and written. The head has passed its checks, so there is one number per cell.
+// Rows of odds tried before a record is written, and written. The head has passed its checks, so there is one number
+// per cell.
 ghost use mathlib.Core.Path.{_≡_};
 ghost use Prim.Native.Nat.{_+_, _*_, _^_, _≤_, _<_};
 ghost use lib.ListN.{length, take, drop};
@@ -37,7 +38,8 @@ fn odds_in_bounds(odds: &[f64], from: usize, width: usize, model: Model) -> bool
     true
 }
 
-// All rows, or 10 with the offset of the first whose odds are not within the bounds. The rows are the list's, and their bytes can be counted.
+// All rows, or 10 with the offset of the first whose odds are not within the bounds. The rows are the list's, and their
+// bytes can be counted.
 pub fn rows_writable(odds: &[f64], width: usize, count: usize, model: Model, at: usize) -> Check
     requires { ⌜ count * width ≤ length (now odds) ⌝ ∗ ⌜ at + count * fieldSize (rowLength width) < 2 ^ 64 ⌝ }
     ensures { λ r. ⌜ checkOf r ≡ refusalIn (rowsChecked (modelOf model) width count at (now (odds .entry))) ⌝ }

@@ -1,5 +1,5 @@
--- Document 01, "Coordinates": from points to cells, and from cells to places in the lent lists; the stencil and the sample.
--- Lists go axis by axis, axis 0 first. Definitions only.
+-- Requirements, "Coordinates": from points to cells, and from cells to places in the lent lists; the stencil and the
+-- sample. Lists go axis by axis, axis 0 first. Definitions only.
 use Prim.Native.Nat.{ℕ, zero, suc, _+_, _-_, _*_}
 use mathlib.Core.Bool.{Bool, true, false, cond, not, _&&_}
 use mathlib.Core.List.{List, [], _∷_, map}
@@ -13,7 +13,8 @@ use Rattle.rules.specs.Floats.{zeroF, oneF, numberF}
 use Rattle.rules.specs.RefusalNumbers.{Answer, given, refused, andThen, outOfBounds, nonFiniteCoordinate}
 use Rattle.rules.specs.TheGridAndItsBounds.{strides}
 
--- "A float becomes a cell by truncation toward zero .. Beyond i64 it saturates; NaN gives 0 (the Rust Reference's `as`)."
+-- "A float becomes a cell by truncation toward zero .. Beyond i64 it saturates; NaN gives 0 (the Rust Reference's
+-- `as`)."
 unfoldable pub truncated : Float → ℤ
 truncated x = toSigned 63 x
 

@@ -1,5 +1,6 @@
--- The house's fields, of which document 01's map record and change request 2's sweep file are made: numbers and floats as bytes, a field as bytes, and
--- how a format is put together: it reads one field, and hands what it means to what follows. Floats are binary64's. Definitions only.
+-- The house's fields, of which the requirements' map record and change request 2's sweep file are made: numbers and
+-- floats as bytes, a field as bytes, and how a format is put together: it reads one field, and hands what it means to
+-- what follows. Floats are binary64's. Definitions only.
 use Prim.Native.Nat.{ℕ, zero, suc, _+_, _*_, _/_, _%_}
 use mathlib.Core.Bool.{Bool, cond, _&&_}
 use mathlib.Core.List.{List, [], _∷_, _++_}
@@ -57,7 +58,8 @@ unfoldable pub fieldHere : ℕ → ℕ → List ℕ → Bool
 fieldHere tag n rest = leb (fieldSize n) (length rest) && eqb (getD rest 0 0) tag && eqb (fromLittleEndian shortSize (drop tagSize rest)) n
 
 -- ---- a format, put together
--- a field that is read: its tag, how many bytes of data it has, what they mean, and which contents are within their bounds
+-- a field that is read: its tag, how many bytes of data it has, what they mean, and which contents are within their
+-- bounds
 pub record Field (A : Type 0) : Type 0 where
   pub tag : ℕ
   pub size : ℕ

@@ -1,8 +1,9 @@
--- Document 01, "Figures to test on": every figure marked *, as one record whose fields are the figures, proved of the definitions by computation.
--- Short tables stand below it. `Original` has answers of the original that a careless change of a definition alters where no figure
--- marked * notices; `Added` has some of what document 01 adds to the original: refusals, and the map record;
--- `Sweeps` has change request 2's sweep file, `Bands` change request 6's bands, `ManyPoints`, `Charts`, `Upright` and `Seasons` those of requests 4, 8, 11 and 12;
--- `Bounds` has a figure for each bound and each number of a rule that no other figure names.
+-- Requirements, "Figures to test on": every figure marked *, as one record whose fields are the figures, proved of the
+-- definitions by computation. Short tables stand below it. `Original` has answers of the original that a careless
+-- change of a definition alters where no figure marked * notices; `Added` has some of what the requirements add to the
+-- original: refusals, and the map record; `Sweeps` has change request 2's sweep file, `Bands` change request 6's bands,
+-- `ManyPoints`, `Charts`, `Upright` and `Seasons` those of requests 4, 8, 11 and 12; `Bounds` has a figure for each
+-- bound and each number of a rule that no other figure names.
 pub mod Original
 pub mod Added
 pub mod Sweeps

@@ -1,4 +1,4 @@
--- Document 01's opening: "Floats are IEEE 754 binary64, nearest-even, one rounding per operation, no fused steps."
+-- The requirements' opening: "Floats are IEEE 754 binary64, nearest-even, one rounding per operation, no fused steps."
 -- The library's `lib.Ieee` is that arithmetic. A rule takes the format as its first argument and is used at `binary64`.
 -- Here are the few numbers that the rules name; as values they serve every format. Definitions only.
 use Prim.Native.Nat.{ℕ}

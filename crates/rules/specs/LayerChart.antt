@@ -1,6 +1,7 @@
--- Document 02, request 8, "The layer chart": "From a three-axis map it gives, per column, cover of the low, middle and high band in eighths and the
--- total." The column of (x, y) has the number x + y * extent x; a chart is a flat list of five numbers a column: low, middle, high, the total by
--- maximum overlap and, over 512, the total by random overlap. Over any number of axes: the last is the height. Definitions only.
+-- Request 8, "The layer chart": "From a three-axis map it gives, per column, cover of the low, middle and high band in
+-- eighths and the total." The column of (x, y) has the number x + y * extent x; a chart is a flat list of five numbers
+-- a column: low, middle, high, the total by maximum overlap and, over 512, the total by random overlap. Over any number
+-- of axes: the last is the height. Definitions only.
 use Prim.Native.Nat.{ℕ, zero, suc, _+_, _-_, _*_}
 use mathlib.Core.Bool.{Bool, true, false, cond, _&&_, _||_}
 use mathlib.Core.List.{List, [], _∷_, _++_}
@@ -14,8 +15,9 @@ use Rattle.rules.specs.RefusalNumbers.{Refusal, given, refused, badCuts,
 use Rattle.rules.specs.RefusalNumbers.Entries.{Outcome, Uses, unlessRefused, answered, orElse, unlessHolds, headRefusal}
 use Rattle.rules.specs.TheGridAndItsBounds.{Model, Head, lastExtent, layerOf}
 
--- "A cell's eighths are the number of these limits that its odds are at or above: -1.9459101490553132, -1.0986122886681098, -0.5108256237659907, 0,
--- 0.5108256237659907, 1.0986122886681098, 1.9459101490553132": each is the binary64 nearest to its decimals, so many times 2^-52
+-- "A cell's eighths are the number of these limits that its odds are at or above: -1.9459101490553132,
+-- -1.0986122886681098, -0.5108256237659907, 0, 0.5108256237659907, 1.0986122886681098, 1.9459101490553132": each is the
+-- binary64 nearest to its decimals, so many times 2^-52
 abbrev pub limits : List Float
 limits =
     fin true 8763600222181975 (negsuc 51) ∷ fin true 4947709893870347 (negsuc 51) ∷ fin true 2300554088843817 (negsuc 51) ∷ zeroF
@@ -48,7 +50,8 @@ maximumOverlap a b c = larger (larger a b) c
 abbrev pub randomOverlap : ℕ → ℕ → ℕ → ℕ
 randomOverlap a b c = 512 - (8 - a) * (8 - b) * (8 - c)
 
--- the odds of so many cells of a column, upwards from this place: a cell and the next lie as far apart as there are columns
+-- the odds of so many cells of a column, upwards from this place: a cell and the next lie as far apart as there are
+-- columns
 unfoldable pub stacked : ℕ → List Float → ℕ → ℕ → List Float
 stacked apart odds zero place = []
 stacked apart odds (suc n) place = getD odds place nan ∷ stacked apart odds n (place + apart)
@@ -107,7 +110,8 @@ charted columns layers ceiling cuts odds chart =
     unlessRefused (chartRefusal columns layers odds (length chart)) chart
     (record { answer = given tt; lent = chartOf columns layers ceiling cuts odds columns ++ drop (5 * columns) chart })
 
--- "checks 1, 2, 3, 4 as far as it uses them": the chart uses the ceiling and the cuts, which are the model's, and the odds
+-- "checks 1, 2, 3, 4 as far as it uses them": the chart uses the ceiling and the cuts, which are the model's, and the
+-- odds
 abbrev pub chartUses : Uses
 chartUses = record { model = true; odds = true; stamps = false; frame = false }
 

@@ -1,6 +1,6 @@
--- Document 02, request 4, "Many sample points in one call": "Take a lent list of points and a lent list for values and gradients, with one
--- mark per point for "nothing"." The lists are flat: N numbers a point; N + 1 numbers a slot, the value and then the gradient; a byte a mark.
--- Definitions only.
+-- Request 4, "Many sample points in one call": "Take a lent list of points and a lent list for values and gradients,
+-- with one mark per point for "nothing"." The lists are flat: N numbers a point; N + 1 numbers a slot, the value and
+-- then the gradient; a byte a mark. Definitions only.
 use Prim.Native.Nat.{ℕ, zero, suc, _*_}
 use mathlib.Core.Bool.{Bool, true, _&&_}
 use mathlib.Core.List.{List, [], _∷_, _++_}

@@ -1,5 +1,6 @@
--- Document 01, "Map record (added)": the bytes of a map, and what a list of bytes means. It is made of the house's fields (`Fields`): each has a name, a
--- tag, a length and what it means, and edition 1 is one arrangement of them. Definitions only.
+-- Requirements, "Map record (added)": the bytes of a map, and what a list of bytes means. It is made of the house's
+-- fields (`Fields`): each has a name, a tag, a length and what it means, and edition 1 is one arrangement of them.
+-- Definitions only.
 use Prim.Native.Nat.{ℕ, zero, suc, _+_, _*_}
 use mathlib.Core.Bool.{Bool, true, cond, _&&_}
 use mathlib.Core.List.{List, [], _∷_, _++_}
@@ -31,7 +32,8 @@ extentsIn (suc n) bs = fromLittleEndian shortSize bs ∷ extentsIn n (drop short
 abbrev pub extentsField : ℕ → Field (List ℕ)
 extentsField axes = record { tag = extentsTag; size = extentsLength axes; means = extentsIn axes; sound = extentsInBounds }
 
--- "2 occupied, free, ceiling": one pair of steps and no cuts. On three axes, too: there whoever reads the record gives the cuts.
+-- "2 occupied, free, ceiling": one pair of steps and no cuts. On three axes, too: there whoever reads the record gives
+-- the cuts.
 abbrev pub modelTag : ℕ
 modelTag = 2
 
@@ -70,7 +72,8 @@ rowWidth es = getD es 0 0
 unfoldable pub rowCount : List ℕ → ℕ
 rowCount es = cells (drop 1 es)
 
--- Change request 3: "A record's odds must lie from the floor to the ceiling, both included and NaN excluded, when read and when written."
+-- Change request 3: "A record's odds must lie from the floor to the ceiling, both included and NaN excluded, when read
+-- and when written."
 abbrev pub fromFloorToCeiling : Model → Float → Bool
 fromFloorToCeiling m x = le (floor m) x && le x (m .ceiling)
 
@@ -95,8 +98,8 @@ endField = record { tag = endTag; size = endLength; means = λ bs. tt; sound = �
 unfoldable pub rowsBytes : ℕ → ℕ → List Float → List ℕ
 rowsBytes width n odds = rowsOf (λ left. field rowTag (floatBytes (take width left))) (drop width) n odds
 
--- "In this order: 1 extents ..; 2 occupied, free, ceiling; 3 frame ..; 4 one row of odds along axis 0, for every row in index order; 5 empty, the end.
--- Nothing follows."
+-- "In this order: 1 extents ..; 2 occupied, free, ceiling; 3 frame ..; 4 one row of odds along axis 0, for every row in
+-- index order; 5 empty, the end. Nothing follows."
 unfoldable pub recordBytes : Head → List Float → List ℕ
 recordBytes h odds =
     field extentsTag (extentBytes (h .extents))
@@ -145,7 +148,8 @@ anyRecordOf bytes =
     let n : ℕ = fromLittleEndian shortSize (drop tagSize bytes) in
     cond (eqb n (extentsLength 2)) (recordOf 2 bytes) (cond (eqb n (extentsLength 3)) (recordOf 3 bytes) (refused (brokenRecord 0)))
 
--- Change request 6: "Whoever reads an edition 1 record of three axes supplies the cuts." Every band has the record's pair.
+-- Change request 6: "Whoever reads an edition 1 record of three axes supplies the cuts." Every band has the record's
+-- pair.
 unfoldable pub bandsFrom : Pair → List ℕ → List Band
 bandsFrom p [] = []
 bandsFrom p (c ∷ cs) = record { cut = c; pair = p } ∷ bandsFrom p cs
@@ -158,7 +162,8 @@ modelWithCuts es (c ∷ cs) m =
 abbrev pub withCuts : List ℕ → Head → Head
 withCuts cuts h = record { extents = h .extents; model = modelWithCuts (h .extents) cuts (h .model); frame = h .frame }
 
--- "Edition 1 records can be written only with equal pairs": "10 at offset 9 (the model field of three axes) when unequal pairs are asked of edition 1"
+-- "Edition 1 records can be written only with equal pairs": "10 at offset 9 (the model field of three axes) when
+-- unequal pairs are asked of edition 1"
 unfoldable pub sameBits : Float → Float → Bool
 sameBits x y = eqb (toBits binary64 x) (toBits binary64 y)
 

@@ -1,4 +1,4 @@
--- Document 01, "Marks and frames": one mark on one cell, marks on a grid, and frames. Definitions only.
+-- Requirements, "Marks and frames": one mark on one cell, marks on a grid, and frames. Definitions only.
 use Prim.Native.Nat.{ℕ, _+_, _*_, _/_}
 use mathlib.Core.Bool.{Bool, true, false, cond, _&&_}
 use mathlib.Core.List.{List, [], _∷_}
@@ -7,8 +7,8 @@ use lib.ListN.{getD, set, length, replicate}
 use lib.Ieee.{Float, nan, Format, add, sub, lt, le}
 use Rattle.rules.specs.TheGridAndItsBounds.{Pair, Model, floor, pairAt, Grid, freshFrame}
 
--- The steps and the bounds of one cell, and whence they come: a function of the cell's place in the lists. By change request 6 a cell "uses its band's
--- pair for clear, cloud and taking back"; the bounds are the model's.
+-- The steps and the bounds of one cell, and whence they come: a function of the cell's place in the lists. By change
+-- request 6 a cell "uses its band's pair for clear, cloud and taking back"; the bounds are the model's.
 pub record Steps : Type 0 where
   pub occupied : Float
   pub free : Float
@@ -61,7 +61,8 @@ markFree f s k c =
     cond (eqb (frameOf (c .stamp)) k) (unmarked c)
     (record { cell = record { odds = freed f s (c .odds); stamp = stampOf k false }; changed = true })
 
--- "Here d = occupied - free if the stamp was free of this frame and odds > floor (NaN counts as above), otherwise d = occupied."
+-- "Here d = occupied - free if the stamp was free of this frame and odds > floor (NaN counts as above), otherwise d =
+-- occupied."
 unfoldable pub occupiedStep : Format → Steps → ℕ → Cell → Float
 occupiedStep f s k c =
     cond (eqb (c .stamp) (stampOf k false)) (cond (le (c .odds) (s .floor)) (s .occupied) (sub f (s .occupied) (s .free))) (s .occupied)

@@ -1,4 +1,5 @@
--- Document 01, "One beam", and a list of beams: from a beam to its marks, which do not depend on the odds and stamps. Definitions only.
+-- Requirements, "One beam", and a list of beams: from a beam to its marks, which do not depend on the odds and stamps.
+-- Definitions only.
 use Prim.Native.Nat.{ℕ, suc, _+_, _*_}
 use mathlib.Core.Bool.{Bool, true, false, cond, _&&_, _||_}
 use mathlib.Core.List.{List, [], _∷_, _++_}
@@ -41,8 +42,8 @@ cutTo near far s =
     let exit : Float = smallerOf (s .exit) far in
     cond (lt exit entry) none (some (record { entry = entry; exit = exit }))
 
--- "direction = endpoint - origin; per axis, direction 0 misses if origin < 0 or >= extent; otherwise near = (0-origin)/direction,
--- far = (extent-origin)/direction, exchanged if near > far"
+-- "direction = endpoint - origin; per axis, direction 0 misses if origin < 0 or >= extent; otherwise near =
+-- (0-origin)/direction, far = (extent-origin)/direction, exchanged if near > far"
 unfoldable pub slab : Format → ℕ → Float → Float → Span → Option Span
 slab f e o d s =
     let near : Float = div f (sub f zeroF o) d in
@@ -113,7 +114,8 @@ clip f es xs ys =
     let ds : List Float = directions f xs ys in
     unlessMissed (slabs f es xs ds wholeSpan) (λ s. clippedAt f es (s .exit) (pointAt f (s .entry) xs ds) (pointAt f (s .exit) xs ds))
 
--- "All cells but the last are marked free; the last occupied if the beam is a Hit and inside, else free. Cells off the grid are skipped."
+-- "All cells but the last are marked free; the last occupied if the beam is a Hit and inside, else free. Cells off the
+-- grid are skipped."
 abbrev pub markOf : Bool → Answer ℕ → List Mark
 markOf occupied (given i) = record { place = i; occupied = occupied } ∷ []
 markOf occupied (refused r) = []

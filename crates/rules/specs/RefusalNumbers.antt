@@ -1,5 +1,6 @@
--- Document 01, "Refusal numbers": the table, a line for each number, and what an answer is. Which refusal an entry gives first is
--- in `RefusalNumbers.Entries`. A refusal is its number in the table and the values that the table's last column gives. Definitions only.
+-- Requirements, "Refusal numbers": the table, a line for each number, and what an answer is. Which refusal an entry
+-- gives first is in `RefusalNumbers.Entries`. A refusal is its number in the table and the values that the table's last
+-- column gives. Definitions only.
 pub mod Entries
 use Prim.Native.Nat.{ℕ}
 use mathlib.Core.List.{List, [], _∷_}
@@ -25,8 +26,8 @@ badModel = record { number = 3; values = [] }
 abbrev pub badBuffer : Refusal
 badBuffer = record { number = 4; values = [] }
 
--- "5 OutOfBounds | a cell or point off the grid | first axis, index, extent", and by change request 1 "the set of all failing axes": a number whose bit k
--- is 1 where axis k fails
+-- "5 OutOfBounds | a cell or point off the grid | first axis, index, extent", and by change request 1 "the set of all
+-- failing axes": a number whose bit k is 1 where axis k fails
 abbrev pub outOfBounds : ℕ → ℤ → ℕ → ℕ → Refusal
 outOfBounds axis index extent axes = record { number = 5; values = pos axis ∷ index ∷ pos extent ∷ pos axes ∷ [] }
 
@@ -41,7 +42,8 @@ ray = record { number = 7; values = [] }
 abbrev pub rayInList : ℕ → ℕ → Refusal
 rayInList place count = record { number = 7; values = pos place ∷ pos count ∷ [] }
 
--- "8 Beams (added) | flat list: not 2N numbers (origin, then endpoint) and one byte per beam, or a byte not 0 or 1 (1 is Hit) | -"
+-- "8 Beams (added) | flat list: not 2N numbers (origin, then endpoint) and one byte per beam, or a byte not 0 or 1 (1
+-- is Hit) | -"
 abbrev pub badBeams : Refusal
 badBeams = record { number = 8; values = [] }
 
@@ -65,24 +67,24 @@ brokenSweep offset = record { number = 12; values = pos offset ∷ [] }
 abbrev pub oddsNotANumber : Refusal
 oddsNotANumber = record { number = 13; values = [] }
 
--- document 02, request 4: "14, lists of unequal count"
+-- request 4: "14, lists of unequal count"
 abbrev pub unequalLists : Refusal
 unequalLists = record { number = 14; values = [] }
 
--- document 02, request 6: "15, bad cuts"
+-- request 6: "15, bad cuts"
 abbrev pub badCuts : Refusal
 badCuts = record { number = 15; values = [] }
 
--- document 02, request 11: "18, outside the profile"
+-- request 11: "18, outside the profile"
 abbrev pub outsideProfile : Refusal
 outsideProfile = record { number = 18; values = [] }
 
--- document 02, request 8: "17 for the first column holding NaN, with the column"
+-- request 8: "17 for the first column holding NaN, with the column"
 abbrev pub nanColumn : ℕ → Refusal
 nanColumn column = record { number = 17; values = pos column ∷ [] }
 
--- document 02, request 12: "19 for unequal sizes, 20 past the limit, 21 for a chart with a band above 8 or totals its bands don't give, or a report column
--- whose nine counts don't add up to its charts or whose other numbers exceed 512 a chart"
+-- request 12: "19 for unequal sizes, 20 past the limit, 21 for a chart with a band above 8 or totals its bands don't
+-- give, or a report column whose nine counts don't add up to its charts or whose other numbers exceed 512 a chart"
 abbrev pub unequalSizes : Refusal
 unequalSizes = record { number = 19; values = [] }
 

@@ -1,6 +1,7 @@
--- Document 02, request 12, "Season report": "Given many charts of equal size: for each column, how often each maximum-overlap total from 0 to 8 stood,
--- how often the two overlap rules differ, and the sum of each total over a common 512, all exact." A report is a number of charts and a flat list of
--- twelve numbers a column: nine counts, how often the rules differ, and the two sums, by maximum and by random overlap. Definitions only.
+-- Request 12, "Season report": "Given many charts of equal size: for each column, how often each maximum-overlap total
+-- from 0 to 8 stood, how often the two overlap rules differ, and the sum of each total over a common 512, all exact." A
+-- report is a number of charts and a flat list of twelve numbers a column: nine counts, how often the rules differ, and
+-- the two sums, by maximum and by random overlap. Definitions only.
 use Prim.Native.Nat.{ℕ, zero, suc, _+_, _*_, _/_}
 use mathlib.Core.Bool.{Bool, true, cond, _&&_}
 use mathlib.Core.List.{List, [], _∷_, _++_}
@@ -54,7 +55,8 @@ runReport columns zero charts = emptyReport columns
 runReport columns (suc n) charts = plus (night charts columns) (runReport columns n (drop (chartWidth * columns) charts))
 
 -- ---- what is refused
--- "19 for unequal sizes": the columns of a report's list, which has twelve numbers for each, and a run of charts with five for each
+-- "19 for unequal sizes": the columns of a report's list, which has twelve numbers for each, and a run of charts with
+-- five for each
 abbrev pub reportColumns : ℕ → ℕ
 reportColumns size = size / reportWidth
 
@@ -89,7 +91,8 @@ unfoldable pub goodReport : ℕ → List ℕ → ℕ → Bool
 goodReport charts report zero = true
 goodReport charts report (suc n) = goodReport charts report n && goodReportColumn charts report (reportWidth * n)
 
--- ---- the entries: the charts that the report has afterwards, and its list; "in that order, and the report stays as it stood"
+-- ---- the entries: the charts that the report has afterwards, and its list; "in that order, and the report stays as
+-- it stood"
 unfoldable pub startReportEntry : ℕ → List ℕ → Outcome ℕ (List ℕ)
 startReportEntry columns report =
     unlessRefused (unlessHolds true (eqb (length report) (reportWidth * columns)) unequalSizes) report

@@ -1,4 +1,5 @@
--- Document 01, "The grid and its bounds". A grid is a list of extents, axis 0 first, of any number of axes. Definitions only.
+-- Requirements, "The grid and its bounds". A grid is a list of extents, axis 0 first, of any number of axes.
+-- Definitions only.
 use Prim.Native.Nat.{ℕ, _*_}
 use mathlib.Core.Bool.{Bool, true, false, cond, _&&_}
 use mathlib.Core.List.{List, [], _∷_}
@@ -46,7 +47,8 @@ unfoldable pub strides : List ℕ → List ℕ
 strides es = stridesFrom 1 es
 
 -- "Model: occupied step > 0, free step < 0, ceiling > 0, all finite, none above 1,048,576 in size; floor = -ceiling."
--- By change request 6 a model has "three pairs of steps, low band first, with one common ceiling" on three axes; "a two-axis map has one pair".
+-- By change request 6 a model has "three pairs of steps, low band first, with one common ceiling" on three axes; "a
+-- two-axis map has one pair".
 pub record Pair : Type 0 where
   pub occupied : Float
   pub free : Float
@@ -56,7 +58,8 @@ pub record Band : Type 0 where
   pub cut : ℕ
   pub pair : Pair
 
--- The layer is how many cells lie at one height, so that a cell's place in the lists gives its height along the last axis.
+-- The layer is how many cells lie at one height, so that a cell's place in the lists gives its height along the last
+-- axis.
 pub record Model : Type 0 where
   pub lowest : Pair
   pub above : List Band
@@ -87,7 +90,8 @@ bounded m = allPairs (pairBounded (m .ceiling)) (m .lowest) (m .above)
 unfoldable pub floor : Model → Float
 floor m = neg (m .ceiling)
 
--- Change request 6: "A cell whose last index is below the first cut is in the low band, below the second in the middle, else in the high"
+-- Change request 6: "A cell whose last index is below the first cut is in the low band, below the second in the middle,
+-- else in the high"
 unfoldable pub pairAt : ℕ → Pair → List Band → Pair
 pairAt height p [] = p
 pairAt height p (b ∷ bs) = cond (ltb height (b .cut)) p (pairAt height (b .pair) bs)

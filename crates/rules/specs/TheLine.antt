@@ -1,4 +1,4 @@
--- Document 01, "The line": the plotter between two points, over any number of axes. Definitions only.
+-- Requirements, "The line": the plotter between two points, over any number of axes. Definitions only.
 use Prim.Native.Nat.{ℕ, zero, suc, _-_}
 use mathlib.Core.Bool.{Bool, true, false, cond, _||_}
 use mathlib.Core.List.{List, [], _∷_, map}
@@ -131,7 +131,8 @@ earlierStep f l =
       remaining = l .remaining - 1;
     })
 
--- "A step past the last cell, or on a line whose primary is not below N (added), yields none and leaves the line unchanged."
+-- "A step past the last cell, or on a line whose primary is not below N (added), yields none and leaves the line
+-- unchanged."
 unfoldable pub stepOf : Format → Line → Step
 stepOf f l =
     cond (eqb (l .remaining) 0 || leb (length (l .axes)) (l .primary)) none

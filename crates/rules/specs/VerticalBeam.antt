@@ -1,5 +1,6 @@
--- Document 02, request 11, "Vertical-beam profile": "Older ceilometers look straight up and send whole metres." What the profile admits and what its beams
--- mark, in whole numbers alone; that the general beam does the same is a law. Definitions only.
+-- Request 11, "Vertical-beam profile": "Older ceilometers look straight up and send whole metres." What the profile
+-- admits and what its beams mark, in whole numbers alone; that the general beam does the same is a law. Definitions
+-- only.
 use Prim.Native.Nat.{ℕ, zero, suc, _-_, min}
 use mathlib.Core.Bool.{Bool, true, false, _&&_}
 use mathlib.Core.List.{List, [], _∷_}
@@ -14,7 +15,8 @@ use Rattle.rules.specs.Coordinates.{timesStrides}
 use Rattle.rules.specs.MarksAndFrames.{Mark}
 use Rattle.rules.specs.OneBeam.{integratedMarks}
 
--- "The input is whole numbers": the column, the heights of the cells at both ends, and whether the beam stopped on cloud
+-- "The input is whole numbers": the column, the heights of the cells at both ends, and whether the beam stopped on
+-- cloud
 pub record Vertical : Type 0 where
   pub x : ℕ
   pub y : ℕ
@@ -25,8 +27,8 @@ pub record Vertical : Type 0 where
 abbrev pub height : List ℕ → ℕ
 height es = getD es 2 0
 
--- "three axes, .. x and y the same at both ends, endpoint not below the origin, all cells on the grid"; "A top height of the grid's own extent means the beam
--- ran out"
+-- "three axes, .. x and y the same at both ends, endpoint not below the origin, all cells on the grid"; "A top height
+-- of the grid's own extent means the beam ran out"
 unfoldable pub inProfile : List ℕ → Vertical → Bool
 inProfile es b =
     eqb (length es) 3 && ltb (b .x) (getD es 0 0) && ltb (b .y) (getD es 1 0)

@@ -1,6 +1,7 @@
--- The corners of a stencil in edges, squares and cubes, and what each leaf of a sample works out of them, in every format. A corner is the list of its
--- bits, bit 0 first, as in the rules; what stands at a corner is a function of it. The code's structs are mapped to these records, whatever their width.
--- Only leaves cite these: a sample's own contract is the rules' `sample`. Definitions only.
+-- The corners of a stencil in edges, squares and cubes, and what each leaf of a sample works out of them, in every
+-- format. A corner is the list of its bits, bit 0 first, as in the rules; what stands at a corner is a function of it.
+-- The code's structs are mapped to these records, whatever their width. Only leaves cite these: a sample's own contract
+-- is the rules' `sample`. Definitions only.
 use Prim.Native.Nat.{ℕ, _+_}
 use mathlib.Core.Bool.{Bool, true, false, cond}
 use mathlib.Core.List.{List, [], _∷_}

@@ -1,6 +1,7 @@
-// The interpolated log-odds at a point, and their gradient: multilinear sums in a fixed order of operations. A weight starts at 1 and is
-// multiplied axes ascending; a sum starts at 0 and adds corners ascending. Corners stand in edges along axis 0, two edges in a square, two
-// squares in a cube, so that three axes are more calls of what two axes call. Which stencil contains a point is `stencil`'s to say.
+// The interpolated log-odds at a point, and their gradient: multilinear sums in a fixed order of operations. A weight
+// starts at 1 and is multiplied axes ascending; a sum starts at 0 and adds corners ascending. Corners stand in edges
+// along axis 0, two edges in a square, two squares in a cube, so that three axes are more calls of what two axes call.
+// Which stencil contains a point is `stencil`'s to say.
 use crate::stencil::Stencil2;
 use crate::stencil::Stencil3;
 use crate::stencil::Stencilled2;
@@ -52,8 +53,8 @@ struct Cube {
     high: Square,
 }
 
-// The odds of a stencil's corners, each read once. That the last of them is a cell, and so each of them, is required: the caller has it of
-// the stencil that it found.
+// The odds of a stencil's corners, each read once. That the last of them is a cell, and so each of them, is required:
+// the caller has it of the stencil that it found.
 fn edge_at(odds: &[f64], at: usize) -> Edge
     requires { ⌜ at + 1 < length (now odds) ⌝ }
     ensures { λ r. ⌜ onEdge (edgeOf r) ≡ oddsFrom (now (odds .entry)) at (1 ∷ []) ⌝ }
@@ -167,7 +168,8 @@ fn value3(x: f64, y: f64, z: f64, cube: Cube) -> f64
     square_sum(sum, square_times(w, z), high)
 }
 
-// The differences, high less low: along edges, which lie along axis 0, and from one edge to another across a later axis.
+// The differences, high less low: along edges, which lie along axis 0, and from one edge to another across a later
+// axis.
 fn along_edges(square: Square) -> Edge
     ensures { λ r. ⌜ edgeOf r ≡ alongEdges binary64 (squareOf square) ⌝ }
 {
@@ -269,8 +271,8 @@ fn sample_at3(extents: Extents3, odds: &[f64], s: Stencil3) -> MapSample3
     }
 }
 
-// The interpolated log-odds and their gradient at a point of two axes, or nothing if the point is off the domain of stencils.
-// Whoever calls has refused extents below two cells with 1, and odds that are not one per cell with 4.
+// The interpolated log-odds and their gradient at a point of two axes, or nothing if the point is off the domain of
+// stencils. Whoever calls has refused extents below two cells with 1, and odds that are not one per cell with 4.
 pub fn sample_log_odds2(extents: Extents2, odds: &[f64], point: Point2) -> SampleRead2
     requires { ⌜ allAtLeast leastExtent (extents2 extents) ≡ true ⌝ ∗ ⌜ length (now odds) ≡ cells (extents2 extents) ⌝ }
     ensures { λ r. ⌜ sampleRead2 r ≡ sample binary64 (extents2 extents) (now (odds .entry)) (point2 point) ⌝ }

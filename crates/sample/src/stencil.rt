@@ -1,5 +1,6 @@
-// The interpolation stencil that contains a point: the lowest cell of it, and how far along each axis the point lies in it.
-// One axis is worked out alone; two and three axes join it. Reading the odds of the corners is `sample.rt`'s. The original's stencil_containing.
+// The interpolation stencil that contains a point: the lowest cell of it, and how far along each axis the point lies in
+// it. One axis is worked out alone; two and three axes join it. Reading the odds of the corners is `sample.rt`'s. The
+// original's stencil_containing.
 use types::Extents2;
 use types::Extents3;
 use types::Point2;
@@ -45,9 +46,9 @@ pub enum Stencilled3 {
     Nothing,
 }
 
-// The top of the domain has no cell above it. Folding it into the last stencil at full weight yields the same value, and stops
-// the corners from running off the end of the row into the next one.
-// The caller has a cell by truncation to an i64, and an extent of two cells or more.
+// The top of the domain has no cell above it. Folding it into the last stencil at full weight yields the same value,
+// and stops the corners from running off the end of the row into the next one. The caller has a cell by truncation to
+// an i64, and an extent of two cells or more.
 fn folded_axis(extent: u64, x: f64, cell: u64) -> StencilAxis
     requires { ⌜ leastExtent ≤ extent ⌝ ∗ ⌜ cell ≤ 2 ^ 63 ⌝ }
     ensures { λ r. ⌜ axisOf r ≡ foldedAxis binary64 extent x cell ⌝ }

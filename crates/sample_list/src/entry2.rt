@@ -1,5 +1,5 @@
-// Many sample points on a map of two axes: 2 numbers a point; 3 a slot, the value and then the gradient; and a mark each,
-// 1 for a sample and 0 for nothing.
+// Many sample points on a map of two axes: 2 numbers a point; 3 a slot, the value and then the gradient; and a mark
+// each, 1 for a sample and 0 for nothing.
 ghost use mathlib.Core.Path.{_≡_};
 ghost use mathlib.Core.Bool.{true};
 ghost use Prim.Native.Nat.{_+_, _*_, _≤_, _<_};
@@ -50,7 +50,8 @@ fn put_sample2(samples: &mut [f64], at: usize, read: SampleRead2) -> u8
     }
 }
 
-// Each point, its slot and its mark. The head has passed its checks and the lists theirs: the entry refuses others with 1, 2, 4 and 14.
+// Each point, its slot and its mark. The head has passed its checks and the lists theirs: the entry refuses others with
+// 1, 2, 4 and 14.
 fn sample_points2(
     extents: Extents2,
     odds: &[f64],
@@ -74,8 +75,8 @@ fn sample_points2(
     }
 }
 
-// The interpolated log-odds with their gradient at each point: what `sample_log_odds` answers of it, put in its slot; the slot of
-// nothing keeps what it held.
+// The interpolated log-odds with their gradient at each point: what `sample_log_odds` answers of it, put in its slot;
+// the slot of nothing keeps what it held.
 pub fn sample_all_log_odds2(
     map: GridMap2,
     odds: &[f64],

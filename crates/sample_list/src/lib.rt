@@ -1,5 +1,5 @@
-// Many sample points in one call: flat lists of points, of slots for samples, and of marks. A point is sampled as it is alone; here is
-// only how the lists are laid out.
+// Many sample points in one call: flat lists of points, of slots for samples, and of marks. A point is sampled as it is
+// alone; here is only how the lists are laid out.
 mod entry2;
 mod entry3;
 mod shape;

@@ -1,4 +1,5 @@
--- A report's answer with its list as it stands afterwards; the store of one night in one column; and numbers that cannot wrap. Definitions only.
+-- A report's answer with its list as it stands afterwards; the store of one night in one column; and numbers that
+-- cannot wrap. Definitions only.
 use Prim.Native.Nat.{ℕ, _+_, _*_, _<_}
 use mathlib.Core.List.{List}
 use lib.ListN.{getD, set}
@@ -10,7 +11,8 @@ use Rattle.types.specs.declared.answers.CountAnswer as CountAnswer
 abbrev pub reportOutcome : CountAnswer.CountAnswer → List ℕ → Outcome ℕ (List ℕ)
 reportOutcome r report = record { answer = countAnswer r; lent = report }
 
--- four of the twelve numbers from this place on are raised: the count of the total, whether the rules differ, and the two sums
+-- four of the twelve numbers from this place on are raised: the count of the total, whether the rules differ, and the
+-- two sums
 abbrev pub addedColumn : List ℕ → ℕ → ℕ → ℕ → List ℕ
 addedColumn l at total random =
     set

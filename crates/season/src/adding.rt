@@ -1,4 +1,5 @@
-// A night into a report, a run of nights, and one report into another. What is added has been tried, and no number can wrap.
+// A night into a report, a run of nights, and one report into another. What is added has been tried, and no number can
+// wrap.
 ghost use mathlib.Core.Path.{_≡_};
 ghost use mathlib.Core.Bool.{true};
 ghost use Prim.Native.Nat.{_+_, _*_, _≤_, _<_};

@@ -1,5 +1,5 @@
-// The entries. Each tries all it is given before it writes a number, in this order: sizes (19), how many charts (20), and the charts and
-// reports themselves (21). It answers how many charts the report has afterwards.
+// The entries. Each tries all it is given before it writes a number, in this order: sizes (19), how many charts (20),
+// and the charts and reports themselves (21). It answers how many charts the report has afterwards.
 ghost use mathlib.Core.Path.{_≡_};
 ghost use Prim.Native.Nat.{_+_};
 ghost use lib.Dec.{leb};

@@ -1,4 +1,5 @@
-// Whether a chart can be one, and whether a report can be one of so many charts: column by column, from the last to the first.
+// Whether a chart can be one, and whether a report can be one of so many charts: column by column, from the last to the
+// first.
 ghost use mathlib.Core.Path.{_≡_};
 ghost use Prim.Native.Nat.{_+_, _*_, _≤_, _<_};
 ghost use lib.ListN.{length};
@@ -67,7 +68,8 @@ fn nine_counts(report: &[u32], at: usize) -> u64
         + wide(report[at + 8])
 }
 
-// The nine counts add up to the charts, and no other number is above 512 a chart. The column is the list's, and the charts are few.
+// The nine counts add up to the charts, and no other number is above 512 a chart. The column is the list's, and the
+// charts are few.
 fn good_report_column(charts: u64, report: &[u32], at: usize) -> bool
     requires { ⌜ charts ≤ mostCharts ⌝ ∗ ⌜ at + 12 ≤ length (now report) ⌝ }
     ensures { λ r. ⌜ r ≡ goodReportColumn charts (now (report .entry)) at ⌝ }

@@ -1,5 +1,5 @@
-// The lent forms over a map of two axes, from C: a slice of beams, and a head lent by reference. Each is `lent`'s entry with its answer converted;
-// both take a reference to structs, so their proofs are by hand.
+// The lent forms over a map of two axes, from C: a slice of beams, and a head lent by reference. Each is `lent`'s entry
+// with its answer converted; both take a reference to structs, so their proofs are by hand.
 ghost use lib.Ieee.{binary64};
 ghost use Rattle.rules.specs.RefusalNumbers.Entries.{beginScanEntry, updateBeamsEntry};
 ghost use Rattle.marks.specs.Marking.{gridOf};

@@ -1,5 +1,5 @@
-// The map record, from C: read and written, for two and three axes. Each entry is the one of its name in record_reader or record_writer; only the
-// answer's form is another.
+// The map record, from C: read and written, for two and three axes. Each entry is the one of its name in record_reader
+// or record_writer; only the answer's form is another.
 ghost use mathlib.Core.Path.{_≡_};
 ghost use Rattle.rules.specs.RefusalNumbers.Entries.{readRecordEntry, writeRecordEntry};
 ghost use mathlib.Core.List.{[]};

@@ -1,4 +1,5 @@
-// A sweep over a map of three axes, from C. Each entry is the one of its name in scan; only the answer's form is another.
+// A sweep over a map of three axes, from C. Each entry is the one of its name in scan; only the answer's form is
+// another.
 ghost use mathlib.Core.Path.{_≡_};
 ghost use mathlib.Core.Bool.{true, false};
 ghost use lib.Ieee.{binary64};

@@ -1,5 +1,5 @@
-// The sweep file, from C: integrated and written, for two and three axes. Each entry is the one of its name in sweep_reader or sweep_writer; only the
-// answer's form is another.
+// The sweep file, from C: integrated and written, for two and three axes. Each entry is the one of its name in
+// sweep_reader or sweep_writer; only the answer's form is another.
 ghost use mathlib.Core.Path.{_≡_};
 ghost use lib.Ieee.{binary64};
 ghost use Rattle.rules.specs.SweepFile.{updateSweepEntry, writeSweepEntry};

@@ -1,5 +1,5 @@
-// Charts from C: the layer chart of a map, and the season's report of many charts. It is a library of its own and needs nothing of the
-// others.
+// Charts from C: the layer chart of a map, and the season's report of many charts. It is a library of its own and needs
+// nothing of the others.
 mod layers;
 mod seasons;
 

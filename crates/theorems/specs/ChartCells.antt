@@ -1,6 +1,7 @@
--- THE CHART KNOWS ONLY THE GRID'S PROMISES. The cell that the layer chart takes for a column and a height is the cell that the index rule gives for the
--- column's indices and that height; the column of (x, y) is x + y times the x extent. And the chart's band of a cell is the band whose pair its marks use.
--- Of any number of axes, the last of which is the height. Definitions only; the proof is in `Proof`.
+-- THE CHART KNOWS ONLY THE GRID'S PROMISES. The cell that the layer chart takes for a column and a height is the cell
+-- that the index rule gives for the column's indices and that height; the column of (x, y) is x + y times the x extent.
+-- And the chart's band of a cell is the band whose pair its marks use. Of any number of axes, the last of which is the
+-- height. Definitions only; the proof is in `Proof`.
 pub mod Proof
 pub mod Examples
 use Prim.Native.Nat.{ℕ, _+_, _-_, _*_, _≤_, _<_}
@@ -67,7 +68,8 @@ pub record OneCell (es : List ℕ) (top : ℕ) (m : Model) (w : Banded es top m)
   -- The index rule gives it a place.
   pub place : ℕ
   pub indexed : flatIndex (es ++ top ∷ []) (map pos (ns ++ z ∷ [])) ≡ given place
-  -- The chart takes the odds at that place, among the cells of the column and the band, as many above the first as its height is.
+  -- The chart takes the odds at that place, among the cells of the column and the band, as many above the first as its
+  -- height is.
   pub taken :
       getD (cellsBetween (layerOf (es ++ top ∷ [])) odds (columnOf es ns) (fromOf (cutsIn m) l) (toOf (cutsIn m) top l)) (z - fromOf (cutsIn m) l) nan
       ≡ getD odds place nan
@@ -87,7 +89,8 @@ pub record KnowsThePromises : Type 0 where
   pub columns : (es : List ℕ) (top : ℕ) (ns : List ℕ) → OnGrid es ns → columnOf es ns < layerOf (es ++ top ∷ [])
   -- The chart's layers are the heights of the last axis.
   pub layers : (es : List ℕ) (top : ℕ) → lastExtent (es ++ top ∷ []) ≡ top
-  -- Each height is in a band; a band's cells are as many as its heights, and a column's three covers are those of its bands.
+  -- Each height is in a band; a band's cells are as many as its heights, and a column's three covers are those of its
+  -- bands.
   pub some-band : (cuts : Cuts) (layers z : ℕ) → z < layers → SomeBand cuts layers z
   pub heights : (apart : ℕ) (odds : List Float) (column from to : ℕ) → length (cellsBetween apart odds column from to) ≡ to - from
   pub covers : (columns layers : ℕ) (ceiling : Float) (cuts : Cuts) (odds : List Float) (column : ℕ)

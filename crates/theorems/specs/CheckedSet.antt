@@ -1,4 +1,5 @@
--- Change request 3: the checked setter "refuses NaN and otherwise does the same" as `set_log_odds`. Of any number of axes. Assumes nothing.
+-- Change request 3: the checked setter "refuses NaN and otherwise does the same" as `set_log_odds`. Of any number of
+-- axes. Assumes nothing.
 use Prim.Native.Nat.{ℕ}
 use mathlib.Core.Path.{_≡_, refl}
 use mathlib.Core.Bool.{true, false}

@@ -1,5 +1,5 @@
--- "The count is the marks that changed a cell, never more than the largest extent": of every beam, on any number of axes, in every format.
--- Assumes nothing.
+-- "The count is the marks that changed a cell, never more than the largest extent": of every beam, on any number of
+-- axes, in every format. Assumes nothing.
 pub mod ClampedLine
 use mathlib.Core.Path.{_≡_, refl, ap, subst}
 use mathlib.Core.List.{List, [], _∷_}

@@ -1,6 +1,7 @@
--- EQUAL PAIRS ARE ONE PAIR: where every band has the lowest one's pair and the cuts fit, each entry answers and leaves what it does for document 01's model,
--- which has one pair and no cuts. Comparisons with the original use it, which has one pair. Of any number of bands and of axes, and any format. The layer
--- chart is not among the entries: it shows the bands, and a map without cuts has none. Definitions only; the proof is in `Proof`.
+-- EQUAL PAIRS ARE ONE PAIR: where every band has the lowest one's pair and the cuts fit, each entry answers and leaves
+-- what it does for the requirements' model, which has one pair and no cuts. Comparisons with the original use it, which
+-- has one pair. Of any number of bands and of axes, and any format. The layer chart is not among the entries: it shows
+-- the bands, and a map without cuts has none. Definitions only; the proof is in `Proof`.
 pub mod Proof
 pub mod Examples
 use Prim.Native.Nat.{ℕ}
@@ -23,7 +24,7 @@ use Rattle.rules.specs.VerticalBeam.{Vertical, updateVerticalEntry}
 use Rattle.rules.specs.ManySamples.{Slots, sampleAllLogOddsEntry}
 use Rattle.theorems.specs.MapRecord.Words.{plainHead}
 
--- ---- document 01's model: `plainHead` is a head that has it
+-- ---- the requirements' model: `plainHead` is a head that has it
 abbrev pub plain : Model → Model
 plain m = plainModel (m .lowest) (m .ceiling)
 
@@ -37,7 +38,7 @@ pub record OnePair (h : Head) : Type 0 where
   pub pairs : AllHave (h .model .lowest) (h .model .above)
   pub cuts : T (cutsInBounds (h .extents) (h .model))
 
--- an answer that is a head, with document 01's model: the rest of the outcome stays
+-- an answer that is a head, with the requirements' model: the rest of the outcome stays
 abbrev pub plainly : {L : Type 0} → Outcome Head L → Outcome Head L
 plainly o = record { answer = andThen (o .answer) (λ h. given (plainHead h)); lent = o .lent }
 

@@ -1,5 +1,6 @@
--- Laws of hand corrections, of the calls we have: sets again and in another order, `reset` after any calls, an empty list of beams, and two lists one after
--- another. Of every format and any number of axes. `HandCorrections.Proof` has the theorem. Definitions only.
+-- Laws of hand corrections, of the calls we have: sets again and in another order, `reset` after any calls, an empty
+-- list of beams, and two lists one after another. Of every format and any number of axes. `HandCorrections.Proof` has
+-- the theorem. Definitions only.
 pub mod Places
 pub mod Sets
 pub mod CheckedSets
@@ -78,7 +79,8 @@ pub record Joined (p : ℕ) (first second both : Outcome ℕ Grid) : Type 0 wher
   pub counts-added : (k l : ℕ) → first .answer ≡ given k → second .answer ≡ given l → both ≡ record { answer = given (k + l); lent = second .lent }
   -- The first is refused: the joined list ends there with the same answer.
   pub first-refused : (r : Refusal) → first .answer ≡ refused r → both ≡ first
-  -- Only the second is: at a beam, and the joined answer has its place raised by the first's length and its count by the first's count.
+  -- Only the second is: at a beam, and the joined answer has its place raised by the first's length and its count by
+  -- the first's count.
   pub second-refused : (k : ℕ) (r : Refusal) → first .answer ≡ given k → second .answer ≡ refused r
       → (q n : ℕ) × (r ≡ rayInList q n) × (both ≡ record { answer = refused (rayInList (p + q) (k + n)); lent = second .lent })
 
@@ -99,7 +101,8 @@ pub record HandCorrections (f : Format) : Type 0 where
   -- A second set on the same cell makes the first irrelevant: the answer, and the odds.
   pub second-set : (h : Head) (cell : List ℤ) (x y : Float) (odds : List Float)
       → setLogOddsEntry h cell y (setLogOddsEntry h cell x odds .lent) ≡ setLogOddsEntry h cell y odds
-  -- Sets on different cells may be exchanged: they leave the same odds, and each answers what it answers without the other.
+  -- Sets on different cells may be exchanged: they leave the same odds, and each answers what it answers without the
+  -- other.
   pub sets-exchanged : (h : Head) (c d : List ℤ) (x y : Float) (odds : List Float) → length c ≡ length (h .extents) → length d ≡ length (h .extents) → ¬ (c ≡ d)
       → setLogOddsEntry h d y (setLogOddsEntry h c x odds .lent) .lent ≡ setLogOddsEntry h c x (setLogOddsEntry h d y odds .lent) .lent
   pub set-answers-alone : (h : Head) (c d : List ℤ) (x y : Float) (odds : List Float)
@@ -111,7 +114,8 @@ pub record HandCorrections (f : Format) : Type 0 where
       → setLogOddsCheckedEntry h d y (setLogOddsCheckedEntry h c x odds .lent) .lent ≡ setLogOddsCheckedEntry h c x (setLogOddsCheckedEntry h d y odds .lent) .lent
   pub checked-answers-alone : (h : Head) (c d : List ℤ) (x y : Float) (odds : List Float)
       → setLogOddsCheckedEntry h d y (setLogOddsCheckedEntry h c x odds .lent) .answer ≡ setLogOddsCheckedEntry h d y odds .answer
-  -- `reset` after any calls on one map answers what `reset` alone does; and where that is not refused, it leaves the same lists.
+  -- `reset` after any calls on one map answers what `reset` alone does; and where that is not refused, it leaves the
+  -- same lists.
   pub reset-answers : (cs : List Call) (m : Map) → resetEntry (afterAll f cs m .head) (afterAll f cs m .grid) .answer ≡ resetEntry (m .head) (m .grid) .answer
   pub reset-alone : (cs : List Call) (m : Map) (k : Head) → resetEntry (m .head) (m .grid) .answer ≡ given k
       → resetEntry (afterAll f cs m .head) (afterAll f cs m .grid) ≡ resetEntry (m .head) (m .grid)
@@ -120,7 +124,8 @@ pub record HandCorrections (f : Format) : Type 0 where
   pub no-numbers : (h : Head) (g : Grid) → updateScanEntry f h [] [] g ≡ nothingDone h g
   pub no-file : (h : Head) (bytes : List ℕ) (s : Sweep) (g : Grid) → sweepOf (length (h .extents)) bytes ≡ given s → s .beams ≡ []
       → updateSweepEntry f h bytes g ≡ nothingSwept (s .station) h g
-  -- One list after another in one sweep is the joined list: as structs, and as flat numbers where both lists are well formed.
+  -- One list after another in one sweep is the joined list: as structs, and as flat numbers where both lists are well
+  -- formed.
   pub lists : (h : Head) (bs cs : List Beam) (g : Grid)
       → Joined (length bs) (updateBeamsEntry f h bs g) (updateBeamsEntry f h cs (updateBeamsEntry f h bs g .lent)) (updateBeamsEntry f h (bs ++ cs) g)
   pub flat-lists : (h : Head) (xs ys : List Float) (hs ks : List ℕ) (g : Grid) → T (flatShape (length (h .extents)) xs hs) → T (flatShape (length (h .extents)) ys ks)

@@ -1,6 +1,6 @@
--- The layer chart: what its numbers can be, and what each depends on. `Columns` has a column and the whole chart, `Order` that more odds give no lower
--- grade, `More` what that does to a chart; the two totals side by side stand in chart/specs/Totals, the limits as decimals in chart/proofs/Limits.
--- Definitions only.
+-- The layer chart: what its numbers can be, and what each depends on. `Columns` has a column and the whole chart,
+-- `Order` that more odds give no lower grade, `More` what that does to a chart; the two totals side by side stand in
+-- chart/specs/Totals, the limits as decimals in chart/proofs/Limits. Definitions only.
 pub mod Columns
 pub mod Order
 pub mod More

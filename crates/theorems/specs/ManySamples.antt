@@ -1,5 +1,5 @@
--- Many sample points in one call are the points one by one, of every format and any number of axes: slot i and mark i hold what asking for point i alone
--- answers. `ManySamples.Proof` has the theorem. Definitions only.
+-- Many sample points in one call are the points one by one, of every format and any number of axes: slot i and mark i
+-- hold what asking for point i alone answers. `ManySamples.Proof` has the theorem. Definitions only.
 pub mod Proof
 use Prim.Native.Nat.{ℕ, suc, _*_, _<_}
 use mathlib.Core.Path.{_≡_}

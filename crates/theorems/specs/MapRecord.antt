@@ -1,6 +1,7 @@
--- Document 01, "Map record (added)": a map that is written and read is the same map, a record that is read and written has the same bytes, two
--- readings of the same bytes agree, and bytes are a record or broken at one offset. Of any number of axes. `MapRecord.Words` has the words
--- used here beside the rules'; the files beside it have the steps of the proofs. Assumes nothing.
+-- Requirements, "Map record (added)": a map that is written and read is the same map, a record that is read and written
+-- has the same bytes, two readings of the same bytes agree, and bytes are a record or broken at one offset. Of any
+-- number of axes. `MapRecord.Words` has the words used here beside the rules'; the files beside it have the steps of
+-- the proofs. Assumes nothing.
 pub mod Words
 pub mod Each
 pub mod Bytes
@@ -40,9 +41,9 @@ use Rattle.theorems.specs.MapRecord.Read.{read-again, read-sound, read-a
 use Rattle.theorems.specs.MapRecord.Entries.{cutsFit, reads, read-from, same-reading, wrote-into, writes}
 
 -- ---- written, then read
--- A map that can be written is read again from its record as it was: the same extents, the same pair of steps, bounds and frame, and for every cell the
--- same odds as data, with the sign of a zero. (A map with a NaN among its odds cannot be written, nor one whose bands have unequal pairs; the cuts are not
--- in the record.)
+-- A map that can be written is read again from its record as it was: the same extents, the same pair of steps, bounds
+-- and frame, and for every cell the same odds as data, with the sign of a zero. (A map with a NaN among its odds cannot
+-- be written, nor one whose bands have unequal pairs; the cuts are not in the record.)
 pub written-then-read : (axes : ℕ) (h : Head) (odds : List Float) (room n : ℕ) → length (h .extents) ≡ axes → 0 < axes
     → headRefusal (usesOf writing) h (length odds) 0 ≡ none → writable h odds room ≡ given n → Held h odds
     → recordOf axes (recordBytes h odds) ≡ given (record { head = plainHead h; odds = odds })
@@ -57,8 +58,8 @@ written-length h odds room n some-axis passes w =
     let size = writable-is h odds room n w .size in
     (record-bytes-length h odds (tests-of-writing h (length odds) passes .0 .count ∙ rows-are-cells (h .extents) some-axis) ∙ size .0, size .1)
 
--- The same of the entries: the first n bytes of what writing left, n its answer, are read with the map's cuts into any grid of its sizes as the same head,
--- bands and all, and the same odds, with all stamps 0.
+-- The same of the entries: the first n bytes of what writing left, n its answer, are read with the map's cuts into any
+-- grid of its sizes as the same head, bands and all, and the same odds, with all stamps 0.
 pub entries-written-then-read : (axes : ℕ) (h : Head) (odds : List Float) (out : List ℕ) (n : ℕ) (g : Grid) → length (h .extents) ≡ axes → 0 < axes
     → Held h odds → writeRecordEntry h odds out .answer ≡ given n
     → length (g .odds) ≡ cells (h .extents) → length (g .stamps) ≡ cells (h .extents)
@@ -77,12 +78,13 @@ entries-written-then-read axes h odds out n g many some-axis held answer one-odd
     ∙ ap (λ (x : Head). record { answer = given x; lent = record { odds = odds; stamps = replicate (cells (h .extents)) 0 } }) whole
 
 -- ---- read, then written
--- A map that was read from a record is written as the same bytes. (Of many patterns of a NaN one is written, but no record holds one: the odds and the
--- model are within their bounds.)
+-- A map that was read from a record is written as the same bytes. (Of many patterns of a NaN one is written, but no
+-- record holds one: the odds and the model are within their bounds.)
 pub read-then-written : (axes : ℕ) (bytes : List ℕ) (s : Stored) → recordOf axes bytes ≡ given s → AreBytes bytes → recordBytes (s .head) (s .odds) ≡ bytes
 read-then-written = read-again
 
--- The same of the entries: what was read into the grid is written over the first bytes of any list that is long enough, the rest of which stays.
+-- The same of the entries: what was read into the grid is written over the first bytes of any list that is long enough,
+-- the rest of which stays.
 pub entries-read-then-written : (axes : ℕ) (cuts bytes : List ℕ) (g : Grid) (h : Head) (out : List ℕ) → 0 < axes → AreBytes bytes
     → readRecordEntry axes cuts bytes g .answer ≡ given h → length bytes ≤ length out
     → writeRecordEntry h (readRecordEntry axes cuts bytes g .lent .odds) out
@@ -97,8 +99,8 @@ entries-read-then-written axes cuts bytes g h out some-axis b answer room =
     ∙ ap (λ (x : List ℕ). record { answer = given (length bytes); lent = x ++ drop (length bytes) out }) (read-again axes bytes s (r .is) b)
 
 -- ---- two readings
--- Two grids lent to read the same bytes with the same cuts, whatever they hold, get the same answer if they have the same sizes; and where a map is given,
--- both grids end the same.
+-- Two grids lent to read the same bytes with the same cuts, whatever they hold, get the same answer if they have the
+-- same sizes; and where a map is given, both grids end the same.
 pub two-readings : (axes : ℕ) (cuts bytes : List ℕ) (g k : Grid) → SameReading axes cuts bytes g k
 two-readings = same-reading
 
@@ -106,8 +108,8 @@ two-readings = same-reading
 one-offset : (o p : ℕ) → brokenRecord o ≡ brokenRecord p → o ≡ p
 one-offset o p e = let v : pos o ∷ [] ≡ pos p ∷ [] = ap (λ (r : Refusal). r .values) e in cc
 
--- Every list of numbers is a record, as long as its extents say and with a map that may be written again; or it is refused at one offset, where a
--- field begins, at most its end.
+-- Every list of numbers is a record, as long as its extents say and with a map that may be written again; or it is
+-- refused at one offset, where a field begins, at most its end.
 pub record-or-broken : (axes : ℕ) (bytes : List ℕ) → 0 < axes → IsRecord axes bytes ⊎ IsBroken axes bytes
 record-or-broken axes bytes some-axis = go (recordOf axes bytes) refl
   where
@@ -123,8 +125,8 @@ record-or-broken axes bytes some-axis = go (recordOf axes bytes) refl
           within = begins-within bytes (b .offset) (b .begins);
         })
 
--- "its length, 4 or 6, gives the axes": a record of two axes or of three is the same map to a reader that asks for no number of axes, and that
--- reader gives no other map.
+-- "its length, 4 or 6, gives the axes": a record of two axes or of three is the same map to a reader that asks for no
+-- number of axes, and that reader gives no other map.
 pub any-axes : (bytes : List ℕ) (s : Stored) → AnyAxes bytes s
 unfolding anyRecordOf
 any-axes bytes s =

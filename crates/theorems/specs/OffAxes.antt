@@ -1,4 +1,5 @@
--- Change request 1: the set of the axes that are off is a number whose bit k is 1 where axis k is off, and nowhere else. Of any number of axes. Assumes nothing.
+-- Change request 1: the set of the axes that are off is a number whose bit k is 1 where axis k is off, and nowhere
+-- else. Of any number of axes. Assumes nothing.
 use Prim.Native.Nat.{ℕ, zero, suc, _+_, _*_, _/_, _%_, _≤_, _<_}
 use mathlib.Core.Path.{_≡_, refl, sym, ap, _∙_}
 use mathlib.Core.Bool.{Bool, true, false, cond, not, _&&_}
@@ -40,7 +41,8 @@ off-axis (e ∷ es) [] k l h = absurd (omega arith)
 off-axis (e ∷ es) (i ∷ is) zero l h = first-bit (isOff (along e i)) (offAxes es is)
 off-axis (e ∷ es) (i ∷ is) (suc k) l h = later-bit k (isOff (along e i)) (offAxes es is) ∙ off-axis es is k (omega arith) (omega arith)
 
--- A point: up to the first coordinate that is not finite, an axis is in the set where its coordinate is not in [0, extent).
+-- A point: up to the first coordinate that is not finite, an axis is in the set where its coordinate is not in [0,
+-- extent).
 pub finiteUpTo : ℕ → List Float → Bool
 finiteUpTo k [] = true
 finiteUpTo zero (x ∷ xs) = finite x

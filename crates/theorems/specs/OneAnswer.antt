@@ -1,6 +1,7 @@
--- TWO ANSWERS ALLOWED FOR ONE INPUT ARE EQUAL, and so is what is left in the lent lists and in a lent head. A contract's `ensures` is an equation, or a few,
--- with what the rules say of the input; here is, for each form that the `ensures` of a public function takes, that it allows one answer. The law is in `Law`;
--- docs/ENTRIES.md names each function with its theorem. `v` is any value of the rules. Assumes nothing.
+-- TWO ANSWERS ALLOWED FOR ONE INPUT ARE EQUAL, and so is what is left in the lent lists and in a lent head. A
+-- contract's `ensures` is an equation, or a few, with what the rules say of the input; here is, for each form that the
+-- `ensures` of a public function takes, that it allows one answer. The law is in `Law`; docs/ENTRIES.md names each
+-- function with its theorem. `v` is any value of the rules. Assumes nothing.
 pub mod Law
 pub mod Values
 pub mod Answers

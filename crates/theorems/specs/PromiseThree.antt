@@ -1,5 +1,6 @@
--- Promise 3, what it says: in which order the beams of a sweep come, and how often each, does not matter. The premises are one record and the
--- conclusions another; above them stand the few words they are said in, beside the rules'. `PromiseThree.Proof` has the theorem. Definitions only.
+-- Promise 3, what it says: in which order the beams of a sweep come, and how often each, does not matter. The premises
+-- are one record and the conclusions another; above them stand the few words they are said in, beside the rules'.
+-- `PromiseThree.Proof` has the theorem. Definitions only.
 pub mod Dyadic
 pub mod Multiple
 pub mod TakeBack
@@ -41,7 +42,8 @@ abbrev pub sweep : Format → Head → Grid → List Beam → Integrated
 sweep f h g bs = integrated f (h .extents) (h .model) (frameOpened h) bs (gridOpened h g)
 
 -- ---- cells, and what is handed to a sweep
--- something of the list makes this mark; a beam makes the marks that `beamMarks` gives, and what else a sweep may be handed has its own
+-- something of the list makes this mark; a beam makes the marks that `beamMarks` gives, and what else a sweep may be
+-- handed has its own
 pub record Makes {A : Type 0} (marksOf : A → Answer (List Mark)) (bs : List A) (x : Mark) : Type 0 where
   pub giver : A
   pub among : List·Memᴰ giver bs
@@ -66,7 +68,8 @@ unfoldable pub oddsWithin : Model → Float → Bool
 oddsWithin m o = le (floor m) o && le o (m .ceiling)
 
 pub record Opened (h : Head) (g : Grid) : Type 0 where
-  -- The head is valid: its extents and its model are within their bounds. Its frame may be any: `begin_scan` opens frame 1 after 0 and after the highest or above.
+  -- The head is valid: its extents and its model are within their bounds. Its frame may be any: `begin_scan` opens
+  -- frame 1 after 0 and after the highest or above.
   pub extents : T (extentsInBounds (h .extents))
   pub model : T (bounded (h .model))
   -- There is one odds number and one stamp for each cell.
@@ -126,7 +129,8 @@ pub record Multiples (f : Format) (h : Head) (g : Grid) : Type 0 where
   pub clear-of-floor : (i : ℕ) → i < cells (h .extents) → T (clearOfFloor f (stepsAt (h .model) i) (getD (g .odds) i nan))
 
 -- ---- the conclusions
--- what a cloud mark leaves of odds o on which nothing was done in this frame, and of those after one clear step: it takes the step back
+-- what a cloud mark leaves of odds o on which nothing was done in this frame, and of those after one clear step: it
+-- takes the step back
 abbrev pub cloudAlone : Format → Steps → Float → Float
 cloudAlone f s o = occupy f s o (s .occupied)
 
@@ -155,12 +159,13 @@ pub record Settled (f : Format) (h : Head) (g : Grid) (bs : List Beam) : Type 0 
   pub given-a-count : (n : ℕ) × (sweep f h g bs .answer ≡ given n)
   -- Each cell ends as it should.
   pub ends : Ends f h g (beamMarks f (h .extents)) bs (sweep f h g bs .grid)
-  -- The same beams in any order and with any repeats leave the same stamps; so do the beams in another order, and with one repeated.
+  -- The same beams in any order and with any repeats leave the same stamps; so do the beams in another order, and with
+  -- one repeated.
   pub stamps-same : (cs : List Beam) → Same bs cs → sweep f h g bs .grid .stamps ≡ sweep f h g cs .grid .stamps
   pub stamps-permuted : (cs : List Beam) → List·Permᴰ bs cs → sweep f h g bs .grid .stamps ≡ sweep f h g cs .grid .stamps
   pub stamps-repeated : (b : Beam) → List·Memᴰ b bs → sweep f h g bs .grid .stamps ≡ sweep f h g (b ∷ bs) .grid .stamps
-  -- If all odds, steps and bounds are multiples of the unit, and each cell is on the floor or above it by more than the clear step's size,
-  -- the odds too are the same, as data: bit for bit, with the sign of zero.
+  -- If all odds, steps and bounds are multiples of the unit, and each cell is on the floor or above it by more than the
+  -- clear step's size, the odds too are the same, as data: bit for bit, with the sign of zero.
   pub odds-same : Multiples f h g → (cs : List Beam) → Same bs cs → sweep f h g bs .grid .odds ≡ sweep f h g cs .grid .odds
   pub odds-permuted : Multiples f h g → (cs : List Beam) → List·Permᴰ bs cs → sweep f h g bs .grid .odds ≡ sweep f h g cs .grid .odds
   pub odds-repeated : Multiples f h g → (b : Beam) → List·Memᴰ b bs → sweep f h g bs .grid .odds ≡ sweep f h g (b ∷ bs) .grid .odds

@@ -1,5 +1,6 @@
--- The season report: night by night is all at once, and joining two reports is the report of the joined run; of the entries, refusals included.
--- `Accepted` and `Entries` have the proofs; the rules' sums, runs and tests stand in season/proofs. Definitions only.
+-- The season report: night by night is all at once, and joining two reports is the report of the joined run; of the
+-- entries, refusals included. `Accepted` and `Entries` have the proofs; the rules' sums, runs and tests stand in
+-- season/proofs. Definitions only.
 pub mod Accepted
 pub mod Entries
 use Prim.Native.Nat.{ℕ, _+_, _*_}
@@ -23,7 +24,8 @@ abbrev pub season : ℕ → ℕ → List ℕ → Outcome ℕ (List ℕ)
 season columns n run = addChartsEntry 0 (emptyReport columns) n run
 
 pub record SeasonLaws : Type 0 where
-  -- "Night by night equals all at once": where a first run was added, adding a second to what it left is adding both at once.
+  -- "Night by night equals all at once": where a first run was added, adding a second to what it left is adding both at
+  -- once.
   pub night-by-night : (charts : ℕ) (report : List ℕ) (n m k : ℕ) (first second : List ℕ) → addChartsEntry charts report n first .answer ≡ given k
       → Alike (addChartsEntry charts report (n + m) (first ++ second)) (addChartsEntry k (addChartsEntry charts report n first .lent) m second)
   -- What is added at once can be added in parts: its beginning is accepted too.

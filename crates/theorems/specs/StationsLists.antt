@@ -1,6 +1,7 @@
--- THE ORDER OF THE STATIONS' LISTS does not matter. A night is many calls: one station mails a file, another a list, an older one looks straight up, a keeper
--- sends one beam again or marks a cell by hand. After `begin_scan`, where no call is refused, it matters which beams and marks were handed over: not in which
--- order, not how often, and not by which calls. `Words` has the calls and what they leave; promise 3's words are in `PromiseThree`. Assumes nothing.
+-- THE ORDER OF THE STATIONS' LISTS does not matter. A night is many calls: one station mails a file, another a list, an
+-- older one looks straight up, a keeper sends one beam again or marks a cell by hand. After `begin_scan`, where no call
+-- is refused, it matters which beams and marks were handed over: not in which order, not how often, and not by which
+-- calls. `Words` has the calls and what they leave; promise 3's words are in `PromiseThree`. Assumes nothing.
 pub mod Words
 pub mod OneCall
 pub mod Calls
@@ -28,8 +29,8 @@ use Rattle.theorems.specs.StationsLists.Proof.{ends, costs, same-map, sa
 
 -- of any format, and of any map whose sweep is properly opened
 module _ (f : Format) (h : Head) (g : Grid) (o : Opened h g) where
-  -- Two lists exchanged, of whatever kinds: the second order is accepted where the first is, leaves the same stamps, and under the premises of promise 3's last
-  -- sentence the same odds.
+  -- Two lists exchanged, of whatever kinds: the second order is accepted where the first is, leaves the same stamps,
+  -- and under the premises of promise 3's last sentence the same odds.
   pub the-order-of-the-stations-lists : (first second : Call) → NoneRefused f h g (first ∷ second ∷ []) → AsGood f h g (first ∷ second ∷ []) (second ∷ first ∷ [])
   the-order-of-the-stations-lists first second =
       same-calls f h g o (first ∷ second ∷ []) (second ∷ first ∷ []) (permuted (first ∷ second ∷ []) (second ∷ first ∷ []) (List·Permᴰ·swap refl refl))
@@ -55,14 +56,15 @@ module _ (f : Format) (h : Head) (g : Grid) (o : Opened h g) where
   pub the-floor-at-the-end : (cs : List Call) → NoneRefused f h g cs → InUnits f h g → FloorCost f h g (handMarks f (h .extents)) (handed f (h .extents) cs) (night f h g cs)
   the-floor-at-the-end = costs f h g o
 
-  -- THE CHART DOES NOT THICKEN. Two nights that hand over the same are charted alike, number for number and refusal for refusal, under the premises of
-  -- promise 3's last sentence.
+  -- THE CHART DOES NOT THICKEN. Two nights that hand over the same are charted alike, number for number and refusal for
+  -- refusal, under the premises of promise 3's last sentence.
   pub the-same-chart : (cs ds : List Call) → NoneRefused f h g cs → NoneRefused f h g ds → Same (handed f (h .extents) cs) (handed f (h .extents) ds)
       → Multiples f h g → (chart : List ℕ) → layerChartEntry (headOpened h) (night f h g cs .odds) chart ≡ layerChartEntry (headOpened h) (night f h g ds .odds) chart
   the-same-chart cs ds a b e m chart = ap (λ (odds : List Float). layerChartEntry (headOpened h) odds chart) (the-same-beams cs ds a b e .odds m)
 
-  -- For multiples of the unit and with no premise about the floor: of some beams and marks, in every order, with any repeats and divided among calls in any way, no band
-  -- and neither total of any column is above that of the one map in which every cell that was hit took one lone cloud vote.
+  -- For multiples of the unit and with no premise about the floor: of some beams and marks, in every order, with any
+  -- repeats and divided among calls in any way, no band and neither total of any column is above that of the one map in
+  -- which every cell that was hit took one lone cloud vote.
   pub the-chart-does-not-thicken : (bs : List Handed) (lone : List Float) → LoneVotes f h g bs lone → InUnits f h g
       → (cs : List Call) → NoneRefused f h g cs → Same bs (handed f (h .extents) cs)
       → (chart : List ℕ) → layerChartEntry (headOpened h) (night f h g cs .odds) chart .answer ≡ given tt → NoThicker (headOpened h) (night f h g cs .odds) lone chart
@@ -72,6 +74,7 @@ module _ (f : Format) (h : Head) (g : Grid) (o : Opened h g) where
 pub one-lone-vote-each : (f : Format) (h : Head) (g : Grid) (bs : List Handed) → (odds : List Float) × LoneVotes f h g bs odds
 one-lone-vote-each = lone-votes
 
--- The night begins with `begin_scan`, which answers the head that the calls are made with, and leaves the stamps that they find.
+-- The night begins with `begin_scan`, which answers the head that the calls are made with, and leaves the stamps that
+-- they find.
 pub the-sweep-opens : (h : Head) (g : Grid) → Opened h g → beginScanEntry h (g .stamps) ≡ record { answer = given (headOpened h); lent = gridOpened h g .stamps }
 the-sweep-opens = begins

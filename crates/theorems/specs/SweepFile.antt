@@ -1,6 +1,7 @@
--- Change request 2, "A sweep file": beams that are written and read are the same beams, a file that is read and written has the same bytes, there is one
--- encoding for each list of beams, bytes are a file or broken at one offset, and integrating a file that was written is integrating its list. Of any
--- number of axes that a byte holds. `SweepFile.Words` has the words used here beside the rules'; the files beside it have the steps of the proofs.
+-- Change request 2, "A sweep file": beams that are written and read are the same beams, a file that is read and written
+-- has the same bytes, there is one encoding for each list of beams, bytes are a file or broken at one offset, and
+-- integrating a file that was written is integrating its list. Of any number of axes that a byte holds.
+-- `SweepFile.Words` has the words used here beside the rules'; the files beside it have the steps of the proofs.
 -- Assumes nothing.
 pub mod Words
 pub mod Written
@@ -32,14 +33,15 @@ use Rattle.theorems.specs.SweepFile.Entries.{list-of-beams, sweep-bytes-
 use Rattle.sweep_writer.proofs.Written.{beams-count}
 
 -- ---- written, then read
--- Beams that can be written are read again as they were, with their station: the same coordinates as data, with the sign of a zero and the infinities. A
--- coordinate that is a NaN reads as the NaN.
+-- Beams that can be written are read again as they were, with their station: the same coordinates as data, with the
+-- sign of a zero and the infinities. A coordinate that is a NaN reads as the NaN.
 pub written-then-read : (axes station : ℕ) (bs : List Beam) → Writable axes station bs
     → sweepOf axes (sweepBytes axes station bs) ≡ given (record { station = station; beams = bs })
 written-then-read = sweep-back
 
 -- ---- read, then written
--- What was read, with no NaN among its coordinates, is written as the same bytes. (A NaN's bytes are not kept: every NaN is written alike.)
+-- What was read, with no NaN among its coordinates, is written as the same bytes. (A NaN's bytes are not kept: every
+-- NaN is written alike.)
 pub read-then-written : (axes : ℕ) (bytes : List ℕ) (s : Sweep) → sweepOf axes bytes ≡ given s → AreBytes bytes → Every NoNanIn (s .beams)
     → sweepBytes axes (s .station) (s .beams) ≡ bytes
 read-then-written = sweep-again
@@ -50,7 +52,8 @@ pub one-encoding : (axes : ℕ) (bytes bytes′ : List ℕ) (s : Sweep) → swee
     → AreBytes bytes → AreBytes bytes′ → Every NoNanIn (s .beams) → bytes ≡ bytes′
 one-encoding axes bytes bytes′ s e e′ b b′ n = sym (sweep-again axes bytes s e b n) ∙ sweep-again axes bytes′ s e′ b′ n
 
--- Two stations' beams that are written as the same bytes are the same beams of the same station, NaNs among them or not.
+-- Two stations' beams that are written as the same bytes are the same beams of the same station, NaNs among them or
+-- not.
 pub one-meaning : (axes station station′ : ℕ) (bs bs′ : List Beam) → Writable axes station bs → Writable axes station′ bs′
     → sweepBytes axes station bs ≡ sweepBytes axes station′ bs′ → (station ≡ station′) × (bs ≡ bs′)
 one-meaning axes station station′ bs bs′ w w′ e =
@@ -64,7 +67,8 @@ one-meaning axes station station′ bs bs′ w w′ e =
 one-offset : (o p : ℕ) → brokenSweep o ≡ brokenSweep p → o ≡ p
 one-offset o p e = let v : pos o ∷ [] ≡ pos p ∷ [] = ap (λ (r : Refusal). r .values) e in cc
 
--- Every list of numbers is a sweep file of so many axes, or it is refused at one offset, where a field begins, at most its end.
+-- Every list of numbers is a sweep file of so many axes, or it is refused at one offset, where a field begins, at most
+-- its end.
 pub sweep-or-broken : (axes : ℕ) (bytes : List ℕ) → IsSweep axes bytes ⊎ IsBroken axes bytes
 sweep-or-broken axes bytes = go (sweepOf axes bytes) refl
   where
@@ -81,8 +85,9 @@ sweep-or-broken axes bytes = go (sweepOf axes bytes) refl
         })
 
 -- ---- the entries
--- "a reader that delivers the beams to integration in their order": the first n bytes of what writing left, n its answer, are integrated as the flat list
--- is that was written; the same answer, with the station's number, and the same lists, whatever the map, refusals and a beam that meets 7 included.
+-- "a reader that delivers the beams to integration in their order": the first n bytes of what writing left, n its
+-- answer, are integrated as the flat list is that was written; the same answer, with the station's number, and the same
+-- lists, whatever the map, refusals and a beam that meets 7 included.
 pub written-then-integrated : (f : Format) (h : Head) (g : Grid) (station : ℕ) (numbers : List Float) (hits out : List ℕ) (n : ℕ)
     → length (h .extents) < 256 → station < 65_536 → Are64 numbers → writeSweepEntry (length (h .extents)) station numbers hits out .answer ≡ given n
     → updateSweepEntry f h (take n (writeSweepEntry (length (h .extents)) station numbers hits out .lent)) g ≡ mailedBy station (updateScanEntry f h numbers hits g)

@@ -1,5 +1,6 @@
--- Change request 11: of a vertical beam inside its profile "cells, odds, stamps and count equal those of the general beam" between the centres of the cells at
--- its ends, or up to the upper face where it ran out. Of every format. `VerticalBeam.Proof` has the theorem. Definitions only.
+-- Change request 11: of a vertical beam inside its profile "cells, odds, stamps and count equal those of the general
+-- beam" between the centres of the cells at its ends, or up to the upper face where it ran out. Of every format.
+-- `VerticalBeam.Proof` has the theorem. Definitions only.
 pub mod Halves
 pub mod Clipping
 pub mod Column

@@ -1,5 +1,5 @@
--- "With finite stencil odds, a sample at a whole-numbered point equals that cell's odds; a zero may change its sign." Of any number of axes,
--- in every format. -0.0 is a whole number too. Assumes nothing.
+-- "With finite stencil odds, a sample at a whole-numbered point equals that cell's odds; a zero may change its sign."
+-- Of any number of axes, in every format. -0.0 is a whole number too. Assumes nothing.
 pub mod Sums
 pub mod Numbers
 use mathlib.Core.Path.{_≡_, refl, sym, ap, ap₂, _∙_, subst}

@@ -1,6 +1,7 @@
--- THE SIGN OF A ZERO FRACTION NEVER SHOWS (document 01, "One beam"). In clipping, "entry = larger of entry and near, exit = smaller of exit and far"; where
--- both are zeros of unlike sign, the original's `max` and `min` may give either. Whichever they give, on each axis anew, every beam has the same marks, and
--- is refused where it was. Of any format, any number of axes, and any beam. Definitions only; `Floats` and `Lines` are the steps of the proof in `Proof`.
+-- THE SIGN OF A ZERO FRACTION NEVER SHOWS (requirements, "One beam"). In clipping, "entry = larger of entry and near,
+-- exit = smaller of exit and far"; where both are zeros of unlike sign, the original's `max` and `min` may give either.
+-- Whichever they give, on each axis anew, every beam has the same marks, and is refused where it was. Of any format,
+-- any number of axes, and any beam. Definitions only; `Floats` and `Lines` are the steps of the proof in `Proof`.
 pub mod Floats
 pub mod Lines
 pub mod Proof
@@ -17,8 +18,9 @@ use Rattle.rules.specs.MarksAndFrames.{Mark}
 use Rattle.rules.specs.OneBeam.{Beam, Span, Clipped, wholeSpan, largerOf, smallerOf, unlessMissed, directions, pointAt, clippedAt, marksBetween, beamMarks}
 use Rattle.laws.specs.Floats.Zeros.{SameNumber}
 
--- A larger and a smaller of two numbers: the rules' own, but that where it is a zero, it may be any zero. A fraction so far is never a NaN, so nothing is asked
--- where the first of the two is one: the original's `max` and `min` give the second there.
+-- A larger and a smaller of two numbers: the rules' own, but that where it is a zero, it may be any zero. A fraction so
+-- far is never a NaN, so nothing is asked where the first of the two is one: the original's `max` and `min` give the
+-- second there.
 pub record Choice : Type 0 where
   pub larger : Float → Float → Float
   pub smaller : Float → Float → Float

@@ -10,8 +10,7 @@ use types::Pair;
 // A number is a value of binary64.
 fn number_held(x: f64)
     ensures { λ _. ⌜ Is64 x ⌝ }
-{
-}
+{}
 
 // Each number of a lent list is one. (That is known of a lent list where a function is called.)
 pub fn numbers_held(numbers: &[f64])

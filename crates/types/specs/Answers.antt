@@ -1,4 +1,5 @@
--- Each case of each entry's answer as the rules' answer: what was asked for, or the refusal with its number and values. Definitions only.
+-- Each case of each entry's answer as the rules' answer: what was asked for, or the refusal with its number and values.
+-- Definitions only.
 use Prim.Native.Nat.{ℕ}
 use mathlib.Core.Bool.{Bool}
 use mathlib.Core.List.{List}

@@ -1,4 +1,4 @@
--- Each case of a refusal as its number and its values in document 01's table. Definitions only.
+-- Each case of a refusal as its number and its values in the requirements' table. Definitions only.
 use Rattle.rules.specs.RefusalNumbers as Paper
 use Rattle.types.specs.declared.refusal.Refusal as Code
 use Rattle.types.specs.declared.refusal.Refusal.the-variants.{DimensionTooSmall, CapacityOverflow, Model, Buffer, OutOfBounds}

@@ -1,4 +1,5 @@
-// What each entry answers; the answers that hold a map's head stand with it, in grid_map. None holds an array. `specs/Answers.antt` gives each case's meaning by document 01.
+// What each entry answers; the answers that hold a map's head stand with it, in grid_map. None holds an array.
+// `specs/Answers.antt` gives each case's meaning by the requirements.
 use crate::points::Cell2;
 use crate::points::Cell3;
 use crate::refusal::Refusal;

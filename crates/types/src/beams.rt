@@ -28,8 +28,8 @@ pub struct ScanBeam3 {
     pub termination: RayTermination,
 }
 
-// A measurement of an instrument that looks straight up and sends whole numbers: the column, the height of the cell it starts in, and
-// that of the cell it stopped in. A top height of the map's own extent says that the beam ran out.
+// A measurement of an instrument that looks straight up and sends whole numbers: the column, the height of the cell it
+// starts in, and that of the cell it stopped in. A top height of the map's own extent says that the beam ran out.
 #[repr(C)]
 pub struct VerticalBeam {
     pub x: u64,

@@ -1,6 +1,7 @@
-// The data of the grid: frames and stamps, points and cells, the model, beams, samples, refusals and answers. Numbers by value and nothing
-// else; what is done with them stands in the crates above, and the map's head with its own functions in grid_map. The original's types.rs.
-// A struct marked `#[repr(C)]` crosses to C as it stands: `include/tembuzar.h` has the same fields in the same order.
+// The data of the grid: frames and stamps, points and cells, the model, beams, samples, refusals and answers. Numbers
+// by value and nothing else; what is done with them stands in the crates above, and the map's head with its own
+// functions in grid_map. The original's types.rs. A struct marked `#[repr(C)]` crosses to C as it stands:
+// `include/tembuzar.h` has the same fields in the same order.
 mod answers;
 mod beams;
 mod frames;

@@ -1,5 +1,6 @@
-// The inverse sensor model, resolved: what one vote of each kind adds to a cell's odds, and where a cell saturates. A map of two axes has one pair of
-// steps; a map of three axes has one for each of three bands along its last axis, since high cloud returns less light than low cloud.
+// The inverse sensor model, resolved: what one vote of each kind adds to a cell's odds, and where a cell saturates. A
+// map of two axes has one pair of steps; a map of three axes has one for each of three bands along its last axis, since
+// high cloud returns less light than low cloud.
 ghost use mathlib.Core.Path.{_≡_};
 ghost use Rattle.rules.specs.TheGridAndItsBounds.{plainModel};
 ghost use Rattle.types.specs.Models.{pairOf, modelOf};

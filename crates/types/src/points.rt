@@ -1,4 +1,5 @@
-// Places: points and directions in fractional cell coordinates, cells by their indices, and extents, each for two and three axes.
+// Places: points and directions in fractional cell coordinates, cells by their indices, and extents, each for two and
+// three axes.
 
 // A position; 1.0 is one cell.
 #[repr(C)]

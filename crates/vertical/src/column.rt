@@ -12,8 +12,8 @@ use beam::mark_counted3;
 use grid_map::GridMap3;
 use places::place_within3;
 
-// A cell and so many above it, all marked free but the last. The head has passed its checks and the cells are on the map: the entry
-// refuses others.
+// A cell and so many above it, all marked free but the last. The head has passed its checks and the cells are on the
+// map: the entry refuses others.
 pub fn mark_column(
     map: GridMap3,
     odds: &mut [f64],

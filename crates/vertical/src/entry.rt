@@ -1,4 +1,5 @@
-// The entry: the head checked, then the profile, then the column marked. It answers for every input; a refused call writes nothing.
+// The entry: the head checked, then the profile, then the column marked. It answers for every input; a refused call
+// writes nothing.
 ghost use mathlib.Core.Path.{_≡_};
 ghost use mathlib.Core.Bool.{true};
 ghost use lib.Ieee.{binary64};
@@ -44,7 +45,8 @@ fn mark_vertical(map: GridMap3, odds: &mut [f64], stamps: &mut [u32], beam: Vert
     )
 }
 
-// One vertical beam: the cells of its column are marked free, and the one it ends in as it ended; where it ran out, all are free.
+// One vertical beam: the cells of its column are marked free, and the one it ends in as it ended; where it ran out, all
+// are free.
 pub fn update_vertical3(
     map: GridMap3,
     odds: &mut [f64],

@@ -26,8 +26,8 @@ pub fn in_profile(extents: Extents3, beam: VerticalBeam) -> bool
     beam.top <= extents.z
 }
 
-// The cells above the first: up to the top, or up to the highest where the beam ran out. In the profile, so that nothing wraps: the
-// entry refuses others with 18.
+// The cells above the first: up to the top, or up to the highest where the beam ran out. In the profile, so that
+// nothing wraps: the entry refuses others with 18.
 pub fn cells_above(extents: Extents3, beam: VerticalBeam) -> u64
     requires { ⌜ inProfile (extents3 extents) (vertical beam) ≡ true ⌝ }
     ensures { λ r. ⌜ r ≡ cellsAbove (extents3 extents) (vertical beam) ⌝ }

@@ -1,4 +1,5 @@
--- Differences of two floats that are not negative, as one rounded fraction: a zero may have either sign. Assumes nothing.
+-- Differences of two floats that are not negative, as one rounded fraction: a zero may have either sign. Assumes
+-- nothing.
 use mathlib.Core.Path.{_≡_, refl, sym, ap, ap₂, _∙_, subst}
 use mathlib.Core.Bool.{Bool, true, false, not, cond, true≢false, _&&_}
 use Prim.Native.Nat.{ℕ, _+_, _-_, _*_, _<_}

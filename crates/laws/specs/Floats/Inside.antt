@@ -1,7 +1,8 @@
--- A coordinate that is followed by whole steps: its cell is known, and goes up or down by 1 with the coordinate, which is rounded at each step.
--- Rounding keeps the order and leaves an exact bound where it is, so it cannot carry the coordinate across a face as long as the coordinate starts
--- at least a margin below its cell's upper face: the cell's number c and c + 1 less the margin are both exact. The margin is one of a cell's parts, of
--- which a format has as many as its fraction leaves room for. Assumes nothing.
+-- A coordinate that is followed by whole steps: its cell is known, and goes up or down by 1 with the coordinate, which
+-- is rounded at each step. Rounding keeps the order and leaves an exact bound where it is, so it cannot carry the
+-- coordinate across a face as long as the coordinate starts at least a margin below its cell's upper face: the cell's
+-- number c and c + 1 less the margin are both exact. The margin is one of a cell's parts, of which a format has as many
+-- as its fraction leaves room for. Assumes nothing.
 use mathlib.Core.Path.{_≡_, refl, sym, ap, _∙_, subst}
 use Prim.Native.Nat.{ℕ, suc, _+_, _-_, _*_, _/_, _^_, _≤_, _<_, min}
 use native.Mathlib.Nat.{lt-of-lt-of-le, mul-one, one-mul, add-mul, suc-mul, mul-assoc, mul-comm, mul-right-comm, mul-lt-mul-of-pos-right, lt-of-mul-lt-mul-right, div-eq-of-lt-le}

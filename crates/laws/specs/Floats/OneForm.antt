@@ -1,4 +1,5 @@
--- A value that fits the format is written in one way only, so a float whose value is known is known as data. Assumes nothing.
+-- A value that fits the format is written in one way only, so a float whose value is known is known as data. Assumes
+-- nothing.
 use mathlib.Core.Path.{_≡_, refl, sym, ap, _∙_, subst}
 use Prim.Native.Nat.{ℕ, zero, suc, _+_, _*_, _%_, _^_, _<_}
 use native.Mathlib.Nat.{mul-one, one-mul, mul-assoc, mul-left-comm, mul-right-comm, mul-pos, pow-suc, pow-succ', zero-mul, zero-lt-suc, lt-irrefl, eq-of-mul-eq-mul-right}

@@ -1,5 +1,5 @@
--- Where a quotient lies beside 0 and 1: of two numbers with one sign it is 1 or more if the divisor is no larger; of two with unlike signs it is 0 or less.
--- Rounding changes neither. Assumes nothing.
+-- Where a quotient lies beside 0 and 1: of two numbers with one sign it is 1 or more if the divisor is no larger; of
+-- two with unlike signs it is 0 or less. Rounding changes neither. Assumes nothing.
 use mathlib.Core.Path.{_≡_, refl, sym, ap, _∙_, subst}
 use Prim.Native.Nat.{ℕ, _+_, _*_, _≤_, _<_, zero-le}
 use native.Mathlib.Nat.{le-trans, mul-one, one-mul, zero-mul, mul-pos, zero-lt-suc, le-of-eq}

@@ -1,5 +1,5 @@
--- Floats that are not negative and at most an exact fraction: whatever a difference of two of them rounds to is no larger, and no more
--- than the next whole number of cells lies along it. Assumes nothing.
+-- Floats that are not negative and at most an exact fraction: whatever a difference of two of them rounds to is no
+-- larger, and no more than the next whole number of cells lies along it. Assumes nothing.
 use mathlib.Core.Path.{_≡_, refl, sym, ap, _∙_, subst}
 use mathlib.Core.Logic.{_⊎_, inl, inr}
 use Prim.Native.Nat.{ℕ, zero, suc, _+_, _-_, _*_, _/_, _^_, _≤_, _<_, min, zero-le}

@@ -1,5 +1,6 @@
 -- Tests of numbers, as truth values and as facts: what the tests of floats come down to.
--- The library's `borrow.Author.Tests` has the tests of one order; here are two orders that follow from each other. Assumes nothing.
+-- The library's `borrow.Author.Tests` has the tests of one order; here are two orders that follow from each other.
+-- Assumes nothing.
 use mathlib.Core.Path.{_≡_, refl}
 use mathlib.Core.Logic.{_⊎_, inl, inr}
 use mathlib.Core.Bool.{Bool, true, false, not, _&&_, _||_}

@@ -1,5 +1,5 @@
--- The library's sums and comparisons see only the values: of two floats that are ±a / c and ±b / c they are those of a and b.
--- Assumes nothing.
+-- The library's sums and comparisons see only the values: of two floats that are ±a / c and ±b / c they are those of a
+-- and b. Assumes nothing.
 use mathlib.Core.Path.{_≡_, refl, sym, ap, ap₂, _∙_, subst}
 use Prim.Native.Nat.{ℕ, _+_, _-_, _*_, _<_}
 use native.Mathlib.Nat.{mul-assoc, mul-comm, mul-right-comm, mul-pos, add-mul, mul-sub, zero-mul}

@@ -1,5 +1,5 @@
--- Zeros and ones: a sum with a zero and a product with a one leave a number as it is, but that a zero may change its sign.
--- Assumes nothing.
+-- Zeros and ones: a sum with a zero and a product with a one leave a number as it is, but that a zero may change its
+-- sign. Assumes nothing.
 use mathlib.Core.Path.{_≡_, refl, sym, ap, ap₂, _∙_, subst}
 use mathlib.Core.Logic.{_⊎_, inl, inr}
 use Prim.Native.Nat.{ℕ, zero, suc, _+_, _-_, _*_, _%_, _^_, _≤_, _<_, zero-le}

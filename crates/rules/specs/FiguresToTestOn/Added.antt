@@ -1,5 +1,5 @@
--- What document 01 adds to the original, by example: the order of refusals, and the map record. One table, proved of the definitions by
--- computation.
+-- What the requirements add to the original, by example: the order of refusals, and the map record. One table, proved
+-- of the definitions by computation.
 use Prim.Native.Nat.{ℕ}
 use mathlib.Core.List.{List, [], _∷_, _++_, map}
 use mathlib.Core.Path.{_≡_, refl}
@@ -99,7 +99,8 @@ pub record AddedAnswers : Type 0 where
   pub number-set :
       setLogOddsCheckedEntry (headOf 2 2 2) (pos 0 ∷ pos 0 ∷ []) (plus 9 1) upTo3
       ≡ record { answer = given tt; lent = plus 4 1 ∷ oneF ∷ plus 2 1 ∷ plus 3 1 ∷ [] }
-  -- change request 1: every axis that is off, beside the first one's index and extent; of a point, those before the first that is not finite
+  -- change request 1: every axis that is off, beside the first one's index and extent; of a point, those before the
+  -- first that is not finite
   pub both-axes-off :
       markEntry binary64 true (headOf 2 2 2) (negsuc 0 ∷ pos 5 ∷ []) (fresh 2 2) ≡ record { answer = refused (outOfBounds 0 (negsuc 0) 2 3); lent = fresh 2 2 }
   pub last-two-off : flatIndex (4 ∷ 3 ∷ 2 ∷ []) (pos 3 ∷ pos 3 ∷ pos 2 ∷ []) ≡ refused (outOfBounds 1 (pos 3) 3 6)

@@ -1,5 +1,5 @@
--- Change request 6 by example: three bands, their cuts, and what edition 1 of the map record makes of them. One table, proved of the definitions by
--- computation.
+-- Change request 6 by example: three bands, their cuts, and what edition 1 of the map record makes of them. One table,
+-- proved of the definitions by computation.
 use Prim.Native.Nat.{ℕ}
 use mathlib.Core.Bool.{Bool, true, false}
 use mathlib.Core.List.{List, [], _∷_, _++_}

@@ -1,5 +1,6 @@
--- A figure for each bound and each number of a rule that no other figure names: the largest size of steps and ceiling, of each band too; the threshold of
--- three axes; frames that no call gives. One table, proved of the definitions by computation.
+-- A figure for each bound and each number of a rule that no other figure names: the largest size of steps and ceiling,
+-- of each band too; the threshold of three axes; frames that no call gives. One table, proved of the definitions by
+-- computation.
 use Prim.Native.Nat.{ℕ}
 use mathlib.Core.Bool.{Bool, true, false}
 use mathlib.Core.List.{List, [], _∷_}

@@ -1,5 +1,5 @@
--- Change request 8 by example: a chart of 2 by 2 columns and three layers, ceiling 4; and each limit of the grades, with the floats beside it. One table,
--- proved of the definitions by computation.
+-- Change request 8 by example: a chart of 2 by 2 columns and three layers, ceiling 4; and each limit of the grades,
+-- with the floats beside it. One table, proved of the definitions by computation.
 use Prim.Native.Nat.{ℕ}
 use mathlib.Core.Path.{_≡_, refl}
 use mathlib.Core.Bool.{true, false}
@@ -44,7 +44,8 @@ besideLimits =
     ∷ []
 
 pub record ChartAnswers : Type 0 where
-  -- -4 is at no limit, -1 at two, 0 at four, 1 at five, 2 at all seven; the ceiling gives 8. The number after the chart stays.
+  -- of the odds -4 is at no limit, -1 at two, 0 at four, 1 at five, 2 at all seven; the ceiling gives 8. The number
+  -- after the chart stays.
   pub four-columns :
       asked odds room
       ≡ record {

@@ -1,5 +1,5 @@
--- Change request 4 by example: points on a map and off it, in one call, and the refusals in their order. One table, proved of the definitions by
--- computation.
+-- Change request 4 by example: points on a map and off it, in one call, and the refusals in their order. One table,
+-- proved of the definitions by computation.
 use mathlib.Core.Path.{_≡_, refl}
 use mathlib.Core.List.{List, [], _∷_}
 use lib.Ieee.{Float, nan, binary64, round, add, sub, mul, lt, le, ofInt, toSigned}

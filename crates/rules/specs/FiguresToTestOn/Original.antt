@@ -1,5 +1,5 @@
--- Answers of the original, from running it, that a careless change of a definition alters where no figure marked * notices: one table,
--- proved of the definitions by computation.
+-- Answers of the original, from running it, that a careless change of a definition alters where no figure marked *
+-- notices: one table, proved of the definitions by computation.
 use Prim.Native.Nat.{ℕ, _^_}
 use mathlib.Core.Bool.{true, false}
 use mathlib.Core.List.{List, [], _∷_, _++_, map}
@@ -50,7 +50,8 @@ pub record OriginalAnswers : Type 0 where
       ≡ leaves 20 9 (replicate 8 (minus 1 2) ++ zeroF ∷ plus 3 4 ∷ []) (replicate 8 4 ++ 0 ∷ 5 ∷ [])
   -- the upper face reached from off the grid can round to below it: (-0.3,0.5) to (2,0.5)
   pub rounded-below-the-face : hitOn 2 2 (point (minus 3 10) halfF) (point (plus 2 1) halfF) ≡ leaves 4 2 (minus 1 2 ∷ plus 3 4 ∷ []) (4 ∷ 5 ∷ [])
-  -- corners ascending, 0.416 with gradient (-0.4800000000000001, 0.24): another order of these sums ends one rounding away
+  -- corners ascending, 0.416 with gradient (-0.4800000000000001, 0.24): another order of these sums ends one rounding
+  -- away
   pub corners-ascending :
       sampleOf (plus 8 10 ∷ plus 2 10 ∷ plus 8 10 ∷ halfF ∷ []) (plus 8 10) (plus 4 10)
       ≡ sampled (fin false 0x1a9fbe76c8b439 (negsuc 53)) (fin true 0xf5c28f5c28f5d (negsuc 52)) (fin false 0x3d70a3d70a3d7 (negsuc 51))

@@ -1,5 +1,5 @@
--- Change request 12 by example: a season of two nights on two columns, the refusals in their order, and how large a report's numbers may be. One table,
--- proved of the definitions by computation.
+-- Change request 12 by example: a season of two nights on two columns, the refusals in their order, and how large a
+-- report's numbers may be. One table, proved of the definitions by computation.
 use Prim.Native.Nat.{ℕ}
 use mathlib.Core.Bool.{Bool, true, false}
 use mathlib.Core.Path.{_≡_, refl}

@@ -1,5 +1,5 @@
--- Change request 2 by example: a sweep file's bytes, where a broken one breaks, and what integrating and writing one answer. One table, proved of
--- the definitions by computation.
+-- Change request 2 by example: a sweep file's bytes, where a broken one breaks, and what integrating and writing one
+-- answer. One table, proved of the definitions by computation.
 use Prim.Native.Nat.{ℕ}
 use mathlib.Core.Bool.{true, false}
 use mathlib.Core.List.{List, [], _∷_, _++_}

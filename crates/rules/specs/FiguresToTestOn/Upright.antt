@@ -1,5 +1,5 @@
--- Change request 11 by example: vertical beams on a map of 2 by 2 by 3, at the ends of the profile and past them. One table, proved of the definitions by
--- computation.
+-- Change request 11 by example: vertical beams on a map of 2 by 2 by 3, at the ends of the profile and past them. One
+-- table, proved of the definitions by computation.
 use Prim.Native.Nat.{ℕ}
 use mathlib.Core.Path.{_≡_, refl}
 use mathlib.Core.Bool.{Bool, true, false}

@@ -1,5 +1,6 @@
--- Document 01, "Refusal numbers", the paragraph under the table: what each entry uses, which refusal comes first, and so what each entry
--- answers and leaves in the lists lent to it. The contract of an entry is an equation with its definition here. Definitions only.
+-- Requirements, "Refusal numbers", the paragraph under the table: what each entry uses, which refusal comes first, and
+-- so what each entry answers and leaves in the lists lent to it. The contract of an entry is an equation with its
+-- definition here. Definitions only.
 use Prim.Native.Nat.{ℕ, suc, _+_}
 use mathlib.Core.Bool.{Bool, true, false, cond, not, _&&_}
 use mathlib.Core.List.{List, [], _∷_, _++_}
@@ -41,8 +42,8 @@ pub record Uses : Type 0 where
   pub stamps : Bool
   pub frame : Bool
 
--- "Each entry that takes a head checks 1, 2, 3, 4 as far as it uses them, then 9, then 8, then points." By change request 6 "15, bad cuts, comes after 3";
--- the cuts are used where the model is.
+-- "Each entry that takes a head checks 1, 2, 3, 4 as far as it uses them, then 9, then 8, then points." By change
+-- request 6 "15, bad cuts, comes after 3"; the cuts are used where the model is.
 unfoldable pub headRefusal : Uses → Head → ℕ → ℕ → Option Refusal
 headRefusal u h odds stamps =
     orElse (extentsRefusal (h .extents))
@@ -52,9 +53,9 @@ headRefusal u h odds stamps =
     (orElse (unlessHolds (u .stamps) (onePerCell (h .extents) stamps) badBuffer)
     (unlessHolds (u .frame) (openFrame (h .frame)) badFrame)))))
 
--- "Extents are used by all; the model by `new`, marks, beams, `set_log_odds` and writing; odds by `new`, `reset`, marks, beams,
--- `set_log_odds`, samples, cell reads and writing; stamps by `new`, `reset`, `begin_scan` (at any frame), marks and beams."
--- The frame (9) by "marking, integrating or writing a record".
+-- "Extents are used by all; the model by `new`, marks, beams, `set_log_odds` and writing; odds by `new`, `reset`,
+-- marks, beams, `set_log_odds`, samples, cell reads and writing; stamps by `new`, `reset`, `begin_scan` (at any frame),
+-- marks and beams." The frame (9) by "marking, integrating or writing a record".
 pub data Entry : Type 0 where
   new reset begin-scan marks beams set-log-odds samples cell-reads cell-containing writing : Entry
 
@@ -175,8 +176,9 @@ sampleLogOddsEntry f h point odds =
 unfoldable pub cellContainingEntry : Format → Head → List Float → Answer (List ℤ)
 cellContainingEntry f h point = answered (headRefusal (usesOf cell-containing) h 0 0) (cellContaining f (h .extents) point)
 
--- reading a map record of so many axes: "Reading tries the whole record (10) before the lent buffers (4) and gives stamps 0." By change request 6 "whoever
--- reads an edition 1 record of three axes supplies the cuts", and 15 comes "in reading after 10 and before 4"; for two axes there are none.
+-- reading a map record of so many axes: "Reading tries the whole record (10) before the lent buffers (4) and gives
+-- stamps 0." By change request 6 "whoever reads an edition 1 record of three axes supplies the cuts", and 15 comes "in
+-- reading after 10 and before 4"; for two axes there are none.
 abbrev pub readAnswer : List ℕ → Grid → Answer Stored → Outcome Head Grid
 readAnswer cuts g (refused r) = record { answer = refused r; lent = g }
 readAnswer cuts g (given s) =

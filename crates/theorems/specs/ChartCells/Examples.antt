@@ -1,5 +1,5 @@
--- The cell (1, 0, 2) of a map of 2 by 2 by 3 with three pairs: its place, what the chart takes for it, and its pair; and that a model which counts heights by
--- other layers uses another band's pair. By computation of the definitions.
+-- The cell (1, 0, 2) of a map of 2 by 2 by 3 with three pairs: its place, what the chart takes for it, and its pair;
+-- and that a model which counts heights by other layers uses another band's pair. By computation of the definitions.
 use mathlib.Core.Path.{_≡_, refl}
 use mathlib.Core.List.{[], _∷_}
 use native.Mathlib.Omega.{arith}

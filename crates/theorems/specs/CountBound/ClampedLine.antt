@@ -1,5 +1,5 @@
--- The clamp leaves each coordinate in [0, extent - 0.5], infinities too, so a line between two clamped points has no more cells than the
--- largest extent. A NaN stays, and the line is refused. Assumes nothing.
+-- The clamp leaves each coordinate in [0, extent - 0.5], infinities too, so a line between two clamped points has no
+-- more cells than the largest extent. A NaN stays, and the line is refused. Assumes nothing.
 use mathlib.Core.Path.{_≡_, refl, sym, ap, _∙_, subst}
 use mathlib.Core.Logic.{_⊎_, inl, inr}
 use mathlib.Core.List.{List, [], _∷_}

@@ -1,5 +1,5 @@
--- A map of 2 by 2 by 3 with three equal pairs meets the premises, and neither premise can be spared: another pair above gives other odds, and cuts that do not
--- fit are refused. By computation of the definitions.
+-- A map of 2 by 2 by 3 with three equal pairs meets the premises, and neither premise can be spared: another pair above
+-- gives other odds, and cuts that do not fit are refused. By computation of the definitions.
 use Prim.Native.Nat.{ℕ}
 use mathlib.Core.Path.{_≡_, refl}
 use mathlib.Core.Bool.{true}

@@ -1,5 +1,5 @@
--- Equal pairs are one pair, proved: the pair of every place is the lowest band's, so marks, sets and integrated beams are the same, and so is what is refused.
--- Assumes nothing.
+-- Equal pairs are one pair, proved: the pair of every place is the lowest band's, so marks, sets and integrated beams
+-- are the same, and so is what is refused. Assumes nothing.
 use Prim.Native.Nat.{ℕ, zero, suc, _/_, _+_}
 use mathlib.Core.Bool.{Bool, true, false, cond, _&&_}
 use mathlib.Core.List.{List, [], _∷_}

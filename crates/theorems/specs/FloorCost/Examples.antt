@@ -25,16 +25,19 @@ abbrev lone : Float → Float
 lone o = loneVote binary64 head2 (lent o) 1
 
 pub record Cost : Type 0 where
-  -- Steps 0.75 and -0.5, floor -4, odds -3.5: every premise is met; the cell ends at -3.25 where a lone vote gives -2.75, lower by the whole clear step.
+  -- Steps 0.75 and -0.5, floor -4, odds -3.5: every premise is met; the cell ends at -3.25 where a lone vote gives
+  -- -2.75, lower by the whole clear step.
   pub premises : Sweep binary64 head2 (lent (minus 7 2)) clearThenCloud × InUnits binary64 head2 (lent (minus 7 2))
   pub whole-step : (after (minus 7 2) ≡ minus 13 4) × (lone (minus 7 2) ≡ minus 11 4)
   -- Odds -3.75, half a clear step above the floor: lower by half of it.
   pub half-step : (after (minus 15 4) ≡ minus 13 4) × (lone (minus 15 4) ≡ minus 3 1)
   -- On the floor: nothing.
   pub nothing : (after (minus 4 1) ≡ minus 13 4) × (lone (minus 4 1) ≡ minus 13 4)
-  -- Odds -10, below the floor, which the premises exclude: the cell ends at -3.25 where a lone vote gives the floor, so it ends higher.
+  -- Odds -10, below the floor, which the premises exclude: the cell ends at -3.25 where a lone vote gives the floor, so
+  -- it ends higher.
   pub below-the-floor : (after (minus 10 1) ≡ minus 13 4) × (lone (minus 10 1) ≡ minus 4 1)
-  -- Odds -1.8, no multiple of the unit, which the premises exclude: the cell ends at -1.0499999999999998 where a lone vote gives -1.05, so it ends higher.
+  -- Odds -1.8, no multiple of the unit, which the premises exclude: the cell ends at -1.0499999999999998 where a lone
+  -- vote gives -1.05, so it ends higher.
   pub no-multiple : (after (minus 9 5) ≡ ofBits binary64 0xbff0_cccc_cccc_cccc) × (lone (minus 9 5) ≡ ofBits binary64 0xbff0_cccc_cccc_cccd)
 
 pub cost : Cost

@@ -1,4 +1,5 @@
--- What the floor costs, proved of the rules: in every format, on any number of axes, for every list of beams. Assumes nothing.
+-- What the floor costs, proved of the rules: in every format, on any number of axes, for every list of beams. Assumes
+-- nothing.
 use mathlib.Core.Path.{_≡_, refl, sym, ap, _∙_, subst}
 use mathlib.Core.Logic.{_⊎_, inl, inr}
 use mathlib.Core.List.{List}

@@ -1,4 +1,5 @@
--- `set_log_odds_checked` again on one cell, and on two cells: a number is set as `set_log_odds` sets it, and NaN changes nothing. Assumes nothing.
+-- `set_log_odds_checked` again on one cell, and on two cells: a number is set as `set_log_odds` sets it, and NaN
+-- changes nothing. Assumes nothing.
 use mathlib.Core.Path.{_≡_, refl, sym, ap, _∙_}
 use mathlib.Core.Bool.{Bool, true, false}
 use mathlib.Core.List.{List}

@@ -1,4 +1,5 @@
--- Lists of beams one after another in one sweep: how far a list comes, said apart from its answer, so that what follows it can be put behind. Assumes nothing.
+-- Lists of beams one after another in one sweep: how far a list comes, said apart from its answer, so that what follows
+-- it can be put behind. Assumes nothing.
 use Prim.Native.Nat.{ℕ, suc, _+_}
 use mathlib.Core.Path.{_≡_, refl, sym, ap, ap₂, _∙_}
 use mathlib.Core.List.{List, [], _∷_, _++_}

@@ -1,4 +1,5 @@
--- Different cells of a map have different places in the lists, over any number of axes: the place tells each index by its remainder. Assumes nothing.
+-- Different cells of a map have different places in the lists, over any number of axes: the place tells each index by
+-- its remainder. Assumes nothing.
 use Prim.Native.Nat.{ℕ, suc, _+_, _*_, _%_, _<_}
 use mathlib.Core.Path.{_≡_, refl, sym, ap, ap₂, _∙_}
 use mathlib.Core.Bool.{Bool, true, false, cond}

@@ -1,5 +1,5 @@
--- `reset` after calls on one map: no call but reading a record changes the extents, the model or the lengths of the lists, and `reset` looks at nothing else.
--- Assumes nothing.
+-- `reset` after calls on one map: no call but reading a record changes the extents, the model or the lengths of the
+-- lists, and `reset` looks at nothing else. Assumes nothing.
 use Prim.Native.Nat.{ℕ}
 use mathlib.Core.Path.{_≡_, refl, sym, ap, ap₂, _∙_}
 use mathlib.Core.Bool.{Bool, true, false}

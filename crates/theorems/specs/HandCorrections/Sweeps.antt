@@ -1,4 +1,5 @@
--- What the entries answer of an empty list of beams, and of two lists one after another in one sweep: as structs, and as flat numbers. Assumes nothing.
+-- What the entries answer of an empty list of beams, and of two lists one after another in one sweep: as structs, and
+-- as flat numbers. Assumes nothing.
 use Prim.Native.Nat.{ℕ, _+_}
 use mathlib.Core.Path.{_≡_, refl, sym, ap, ap₂, _∙_}
 use mathlib.Core.List.{List, _++_}

@@ -1,4 +1,5 @@
--- Of two maps of which one has no lower grade in any cell: no number of its chart is lower; and where the other holds no NaN it holds none. Assumes nothing.
+-- Of two maps of which one has no lower grade in any cell: no number of its chart is lower; and where the other holds
+-- no NaN it holds none. Assumes nothing.
 use Prim.Native.Nat.{ℕ, zero, suc, _+_, _-_, _*_, _≤_}
 use mathlib.Core.Path.{_≡_, refl, sym, ap}
 use mathlib.Core.Bool.{Bool, true, false, cond, _||_}

@@ -1,4 +1,5 @@
--- More odds, no lower grade: floats are ordered, as fractions with a sign, and NaN stands outside the order. Assumes nothing.
+-- More odds, no lower grade: floats are ordered, as fractions with a sign, and NaN stands outside the order. Assumes
+-- nothing.
 use Prim.Native.Nat.{ℕ, _+_, _*_, _≤_, _<_}
 use mathlib.Core.Path.{_≡_, refl, sym, ap, _∙_}
 use mathlib.Core.Logic.{_⊎_, inl, inr}

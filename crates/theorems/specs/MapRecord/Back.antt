@@ -80,7 +80,8 @@ plain-bounded : (m : Model) → bounded m ≡ true → bounded (plainModel (m .l
 unfolding bounded allPairs
 plain-bounded m t = lowest-bounded m t
 
--- what is known where writing is not refused: the odds are within their bounds, and the answer is the record's size, for which there is room
+-- what is known where writing is not refused: the odds are within their bounds, and the answer is the record's size,
+-- for which there is room
 pub record Writable (h : Head) (odds : List Float) (room n : ℕ) : Type 0 where
   pub pairs : equalPairs (h .model .lowest) (h .model .above) ≡ true
   pub checked : rowsChecked (h .model) (rowWidth (h .extents)) (rowCount (h .extents)) (rowsOffset (length (h .extents))) odds ≡ given tt

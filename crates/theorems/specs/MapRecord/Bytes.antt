@@ -1,5 +1,5 @@
--- Whole numbers as bytes, lowest byte first: what was written is read again, and what was read is written again. Of any number of bytes.
--- Assumes nothing.
+-- Whole numbers as bytes, lowest byte first: what was written is read again, and what was read is written again. Of any
+-- number of bytes. Assumes nothing.
 use Prim.Native.Nat.{ℕ, zero, suc, _+_, _*_, _/_, _%_, _^_, _≤_, _<_}
 use mathlib.Core.List.{List, [], _∷_, _++_}
 use mathlib.Core.Path.{_≡_, refl, ap, ap₂, _∙_}

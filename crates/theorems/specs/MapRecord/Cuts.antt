@@ -1,4 +1,5 @@
--- Edition 1 and bands: a head whose pairs are equal is its plain head with its cuts; and a plain head with cuts is written as it was. Assumes nothing.
+-- Edition 1 and bands: a head whose pairs are equal is its plain head with its cuts; and a plain head with cuts is
+-- written as it was. Assumes nothing.
 use Prim.Native.Nat.{ℕ}
 use mathlib.Core.Bool.{Bool, true, _&&_}
 use mathlib.Core.List.{List, [], _∷_, _++_}

@@ -1,5 +1,5 @@
--- A fact of each element of a list, said by its place, as the facts about a lent list's numbers are; and tests of which all must hold.
--- Assumes nothing.
+-- A fact of each element of a list, said by its place, as the facts about a lent list's numbers are; and tests of which
+-- all must hold. Assumes nothing.
 use Prim.Native.Nat.{ℕ, zero, suc}
 use mathlib.Core.List.{List, [], _∷_, _++_}
 use mathlib.Core.Bool.{Bool, true, false, _&&_}

@@ -1,4 +1,5 @@
--- The entries that read and write a record, where they are not refused: what the answer says of the lists lent. Assumes nothing.
+-- The entries that read and write a record, where they are not refused: what the answer says of the lists lent. Assumes
+-- nothing.
 use Prim.Native.Nat.{ℕ}
 use mathlib.Core.Bool.{Bool, true, false, cond, _&&_}
 use mathlib.Core.List.{List, _++_}

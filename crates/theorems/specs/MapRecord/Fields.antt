@@ -1,5 +1,5 @@
--- One field of a record: written it is found again, with what follows it; and found, it is what writing its contents gives. And the steps of
--- reading: a sound field goes on, a broken one refuses at its offset. Assumes nothing.
+-- One field of a record: written it is found again, with what follows it; and found, it is what writing its contents
+-- gives. And the steps of reading: a sound field goes on, a broken one refuses at its offset. Assumes nothing.
 use Prim.Native.Nat.{ℕ, suc, _+_, _≤_, _<_}
 use mathlib.Core.Bool.{Bool, true, false}
 use mathlib.Core.List.{List, [], _∷_, _++_, append-assoc}

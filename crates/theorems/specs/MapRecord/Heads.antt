@@ -1,5 +1,5 @@
--- The head that a record holds: that its numbers fit the bytes of their fields, and that the tests of reading and of writing are the same.
--- Of any number of axes. Assumes nothing.
+-- The head that a record holds: that its numbers fit the bytes of their fields, and that the tests of reading and of
+-- writing are the same. Of any number of axes. Assumes nothing.
 use Prim.Native.Nat.{ℕ, suc, _*_, _^_, _≤_, _<_}
 use mathlib.Core.Bool.{true}
 use mathlib.Core.List.{List, [], _∷_}

@@ -1,5 +1,6 @@
--- The laws of the map record are not empty, and their premises are needed: maps of 2 by 2 and of 2 by 2 by 2 that can be written, and for each
--- premise of `written-then-read` and `read-then-written` an example that fails it, and the conclusion with it. By computation of the definitions.
+-- The laws of the map record are not empty, and their premises are needed: maps of 2 by 2 and of 2 by 2 by 2 that can
+-- be written, and for each premise of `written-then-read` and `read-then-written` an example that fails it, and the
+-- conclusion with it. By computation of the definitions.
 use Prim.Native.Nat.{ℕ}
 use mathlib.Core.Path.{_≡_, refl}
 use mathlib.Core.Bool.{true, false}
@@ -22,7 +23,7 @@ use Rattle.theorems.specs.WholeSample.{allFit}
 use Rattle.theorems.specs.MapRecord.Words.{Held}
 use Rattle.theorems.specs.MapRecord.Numbers.{are-64}
 
--- document 01's model, occupied 0.75, free -0.5, ceiling 4; in frame 1
+-- the requirements' model, occupied 0.75, free -0.5, ceiling 4; in frame 1
 abbrev model : Model
 model = plainModel (record { occupied = fin false 3 (negsuc 1); free = fin true 1 (negsuc 0) }) (fin false 1 (pos 2))
 
@@ -81,7 +82,8 @@ pub record Needed : Type 0 where
   pub two-held : Held (headOf (2 ∷ 2 ∷ [])) four
   pub three-axes :
       (headRefusal (usesOf writing) (headOf (2 ∷ 2 ∷ 2 ∷ [])) 8 0 ≡ none) × (writable (headOf (2 ∷ 2 ∷ 2 ∷ [])) (four ++ four) 200 ≡ given 122)
-  -- Bands of equal pairs on 2 by 2 by 3, and one of another pair: the first is written and read with its cuts, the other cannot be written.
+  -- Bands of equal pairs on 2 by 2 by 3, and one of another pair: the first is written and read with its cuts, the
+  -- other cannot be written.
   pub equal-bands :
       (headRefusal (usesOf writing) (banded (model .lowest)) 12 0 ≡ none) × (writable (banded (model .lowest)) (four ++ four ++ four) 200 ≡ given 160)
   pub bands-held : Held (banded (model .lowest)) (four ++ four ++ four)
@@ -98,7 +100,8 @@ pub record Needed : Type 0 where
   pub held-needed :
       recordOf 2 (bytesOf (evenTwo ∷ zeroF ∷ zeroF ∷ zeroF ∷ []))
       ≡ given (record { head = headOf (2 ∷ 2 ∷ []); odds = fin false 1 (pos 1) ∷ zeroF ∷ zeroF ∷ zeroF ∷ [] })
-  -- A NaN, of the pattern that would be written and of another: each breaks its row. So no record holds a NaN, whose bytes could not be told from it again.
+  -- A NaN, of the pattern that would be written and of another: each breaks its row. So no record holds a NaN, whose
+  -- bytes could not be told from it again.
   pub nan-broken : recordOf 2 (bytesOf (nan ∷ zeroF ∷ zeroF ∷ zeroF ∷ [])) ≡ refused (brokenRecord 41)
   pub other-nan-broken : recordOf 2 (set (bytesOf (nan ∷ zeroF ∷ zeroF ∷ zeroF ∷ [])) 44 1) ≡ refused (brokenRecord 41)
   -- A number above 255 where a byte belongs: the frame 256, of which 0, 1, 0, 0 is written.

@@ -1,5 +1,5 @@
--- Numbers of the same width one after another, as a record's extents and floats are: what was written is read again, and what was read is
--- written again. One law for both, then each by its name in the rules. Assumes nothing.
+-- Numbers of the same width one after another, as a record's extents and floats are: what was written is read again,
+-- and what was read is written again. One law for both, then each by its name in the rules. Assumes nothing.
 use Prim.Native.Nat.{ℕ, zero, suc, _+_, _*_, _^_, _≤_, _<_}
 use mathlib.Core.Bool.{not, true}
 use mathlib.Core.List.{List, [], _∷_, _++_, append-assoc}

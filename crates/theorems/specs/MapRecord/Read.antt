@@ -1,5 +1,5 @@
--- A record read: what is known of its fields, that its map may be written again and gives the same bytes, and where a record that is refused
--- is broken. Assumes nothing.
+-- A record read: what is known of its fields, that its map may be written again and gives the same bytes, and where a
+-- record that is refused is broken. Assumes nothing.
 use Prim.Native.Nat.{ℕ, _*_, _<_}
 use mathlib.Core.Bool.{Bool, true, false, _&&_, true≢false}
 use mathlib.Core.List.{List, [], _∷_, _++_, append-assoc}

@@ -1,5 +1,5 @@
--- The rows of odds and the end of a record: there and back, and what is known of rows that were read. Of any width and number of rows.
--- Assumes nothing.
+-- The rows of odds and the end of a record: there and back, and what is known of rows that were read. Of any width and
+-- number of rows. Assumes nothing.
 use Prim.Native.Nat.{ℕ, zero, suc, _+_, _*_, _≤_, _<_}
 use mathlib.Core.Bool.{Bool, true, false, true≢false}
 use mathlib.Core.List.{List, [], _∷_, _++_, append-assoc}

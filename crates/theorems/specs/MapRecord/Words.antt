@@ -1,5 +1,5 @@
--- The words that the laws of the map record are said in, beside the rules' own: bytes and floats as a lent list is known to hold them, where a
--- field begins, what is known of a record that was read and of a refusal. Definitions only.
+-- The words that the laws of the map record are said in, beside the rules' own: bytes and floats as a lent list is
+-- known to hold them, where a field begins, what is known of a record that was read and of a refusal. Definitions only.
 use Prim.Native.Nat.{ℕ, _+_, _≤_, _<_}
 use mathlib.Core.Bool.{true}
 use mathlib.Core.List.{List, [], _∷_}
@@ -65,7 +65,8 @@ cutsOf (b ∷ bs) = b .cut ∷ cutsOf bs
 abbrev pub plainHead : Head → Head
 plainHead h = record { extents = h .extents; model = plainModel (h .model .lowest) (h .model .ceiling); frame = h .frame }
 
--- A field begins at the first byte; and behind each field that stands whole, by the length that it bears, the next one begins.
+-- A field begins at the first byte; and behind each field that stands whole, by the length that it bears, the next one
+-- begins.
 pub data FieldBegins (bytes : List ℕ) : ℕ → Type 0 where
   first : FieldBegins bytes 0
   behind : (o n : ℕ) → FieldBegins bytes o → o + fieldSize n ≤ length bytes → fromLittleEndian 2 (drop 1 (drop o bytes)) ≡ n
@@ -89,7 +90,8 @@ pub record IsRecord (axes : ℕ) (bytes : List ℕ) : Type 0 where
   pub is : recordOf axes bytes ≡ given stored
   pub sound : Sound axes bytes stored
 
--- bytes that are none: they are refused with number 10 at one offset, at most the end of the bytes, where a field begins
+-- bytes that are none: they are refused with number 10 at one offset, at most the end of the bytes, where a field
+-- begins
 pub record IsBroken (axes : ℕ) (bytes : List ℕ) : Type 0 where
   pub offset : ℕ
   pub is : recordOf axes bytes ≡ refused (brokenRecord offset)

@@ -1,6 +1,7 @@
--- The contracts that allow more than one answer, all of the walk by whole numbers. `followed_cell` and `cell_after` may say of any coordinate that no cell
--- is followed from it, by any number beyond every map; `follow2` and `follow3` may stop after any cell, the first step among them. Each decides how much of
--- a line is walked the fast way; `walk_drawn2` and `3` above them have one answer. Assumes nothing.
+-- The contracts that allow more than one answer, all of the walk by whole numbers. `followed_cell` and `cell_after` may
+-- say of any coordinate that no cell is followed from it, by any number beyond every map; `follow2` and `follow3` may
+-- stop after any cell, the first step among them. Each decides how much of a line is walked the fast way; `walk_drawn2`
+-- and `3` above them have one answer. Assumes nothing.
 use Prim.Native.Nat.{ℕ, _+_, _<_}
 use mathlib.Core.List.{List}
 use mathlib.Core.Path.{_≡_, refl}

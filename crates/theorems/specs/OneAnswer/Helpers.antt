@@ -1,5 +1,5 @@
--- The same of the functions under the entries: for each form that their contracts take, that it allows one answer. The exceptions are in `Exceptions`.
--- Assumes nothing.
+-- The same of the functions under the entries: for each form that their contracts take, that it allows one answer. The
+-- exceptions are in `Exceptions`. Assumes nothing.
 use Prim.Native.Nat.{ℕ}
 use mathlib.Core.Path.{_≡_, refl, sym, ap, _∙_}
 use mathlib.Core.Bool.{Bool}

@@ -1,5 +1,6 @@
--- The law that fixes an answer: a contract says that what is answered and left, seen by a map with a way back, is one value of the
--- rules; then two that it allows for one input are equal. Alone, beside lent lists, and beside a lent head. Assumes nothing.
+-- The law that fixes an answer: a contract says that what is answered and left, seen by a map with a way back, is one
+-- value of the rules; then two that it allows for one input are equal. Alone, beside lent lists, and beside a lent
+-- head. Assumes nothing.
 use mathlib.Core.Path.{_≡_, refl, sym, ap, _∙_}
 use Rattle.rules.specs.RefusalNumbers.{Answer}
 use Rattle.rules.specs.RefusalNumbers.Entries.{Outcome}

@@ -1,4 +1,5 @@
--- Stencils, checks, places, clips, spans and steps, of the functions under the entries: each map to the rules has a way back. Assumes nothing.
+-- Stencils, checks, places, clips, spans and steps, of the functions under the entries: each map to the rules has a way
+-- back. Assumes nothing.
 use Prim.Native.Nat.{ℕ}
 use mathlib.Core.Path.{_≡_, refl, ap}
 use mathlib.Core.List.{List}

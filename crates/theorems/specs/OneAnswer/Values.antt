@@ -1,4 +1,5 @@
--- Each map of a point, cell, model, sample or beam to the rules has a way back, so two that stand for the same are the same. Assumes nothing.
+-- Each map of a point, cell, model, sample or beam to the rules has a way back, so two that stand for the same are the
+-- same. Assumes nothing.
 use Prim.Native.Nat.{ℕ}
 use mathlib.Core.Path.{refl}
 use mathlib.Core.Bool.{Bool}

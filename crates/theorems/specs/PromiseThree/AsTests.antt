@@ -1,5 +1,5 @@
--- Promise 3's premises as tests, one for each, in the order of the premises' records: where all pass, the premises hold.
--- For examples, where the tests compute. Assumes nothing.
+-- Promise 3's premises as tests, one for each, in the order of the premises' records: where all pass, the premises
+-- hold. For examples, where the tests compute. Assumes nothing.
 use mathlib.Core.Path.{_≡_, refl, sym, subst}
 use mathlib.Core.List.{List, [], _∷_, _++_, List·Memᴰ, List·Memᴰ·cases-cons, List·Memᴰ·not-nil}
 use mathlib.Core.Logic.{inl, inr}

@@ -1,5 +1,5 @@
--- A list of beams of which none is refused makes the marks of each in turn, and these do not depend on what the grid holds. So the same beams
--- in another order, or repeated, make the same marks. Assumes nothing.
+-- A list of beams of which none is refused makes the marks of each in turn, and these do not depend on what the grid
+-- holds. So the same beams in another order, or repeated, make the same marks. Assumes nothing.
 use mathlib.Core.Path.{_≡_, refl, sym, ap, _∙_, subst}
 use mathlib.Core.Logic.{_⊎_, inl, inr}
 use mathlib.Core.List.{List, [], _∷_, _++_, List·Memᴰ, List·Memᴰ·head, List·Memᴰ·tail, List·Memᴰ·cases-cons, List·Memᴰ·append-cases, List·Memᴰ·not-nil}

@@ -1,5 +1,5 @@
--- Floats that are whole multiples of the unit, 2 ^ -20 in binary64 and 2 ^ -8 in binary32: sums, differences and comparisons of them are
--- those of whole numbers, so they are exact. `dif f a b` is (a - b) units. Assumes nothing.
+-- Floats that are whole multiples of the unit, 2 ^ -20 in binary64 and 2 ^ -8 in binary32: sums, differences and
+-- comparisons of them are those of whole numbers, so they are exact. `dif f a b` is (a - b) units. Assumes nothing.
 use mathlib.Core.Path.{_≡_, refl, sym, ap, ap₂, _∙_, subst}
 use Prim.Native.Nat.{ℕ, zero, suc, _+_, _-_, _*_, _^_, _≤_, _<_}
 use native.Mathlib.Nat.{le-trans, le-of-eq, lt-of-lt-of-le, mul-comm, mul-left-comm, mul-lt-mul-of-pos-right}

@@ -1,5 +1,6 @@
--- Promise 3 said of the entries: what `begin_scan` and then a slice of beams, or `update_scan`, answer and leave, in a sweep that meets the premises,
--- is the sweep that the theorem speaks of. `StationsLists` says it of any calls that are not refused. Assumes nothing.
+-- Promise 3 said of the entries: what `begin_scan` and then a slice of beams, or `update_scan`, answer and leave, in a
+-- sweep that meets the premises, is the sweep that the theorem speaks of. `StationsLists` says it of any calls that are
+-- not refused. Assumes nothing.
 use Prim.Native.Nat.{ℕ, suc, _+_}
 use mathlib.Core.Bool.{Bool, true, false, cond, _&&_}
 use mathlib.Core.List.{List, [], _∷_}
@@ -47,7 +48,8 @@ unfolding beginScanEntry headRefusal
 begins h g o = rw (extents-pass (h .extents) (o .extents), is-true (onePerCell (h .extents) (length (g .stamps))) (o .stamps-per-cell)) refl
 
 module _ (f : Format) (h : Head) (g : Grid) (bs : List Beam) (s : Sweep f h g bs) where
-  -- A slice of beams then leaves what the theorem speaks of. That the cuts are in bounds is no premise of promise 3: it is what the entry itself checks (15).
+  -- A slice of beams then leaves what the theorem speaks of. That the cuts are in bounds is no premise of promise 3: it
+  -- is what the entry itself checks (15).
   pub integrates : T (cutsInBounds (h .extents) (h .model)) → updateBeamsEntry f (headOpened h) bs (gridOpened h g) ≡ ofIntegrated (sweep f h g bs)
   unfolding updateBeamsEntry headRefusal
   integrates cuts =

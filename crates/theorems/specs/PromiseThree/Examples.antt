@@ -1,5 +1,5 @@
--- Promise 3 is not empty: a sweep of two beams on a map of two axes and on one of three, in both formats, that meets every premise.
--- By computation of the definitions.
+-- Promise 3 is not empty: a sweep of two beams on a map of two axes and on one of three, in both formats, that meets
+-- every premise. By computation of the definitions.
 use Prim.Native.Nat.{ℕ, _+_}
 use mathlib.Core.Bool.{true, false}
 use mathlib.Core.List.{List, [], _∷_, _++_}
@@ -25,7 +25,7 @@ plus n d = round binary64 false n d
 abbrev pub minus : ℕ → ℕ → Float
 minus n d = round binary64 true n d
 
--- document 01's model: occupied 0.75, free -0.5, ceiling 4
+-- the requirements' model: occupied 0.75, free -0.5, ceiling 4
 abbrev pub model : Model
 model = plainModel (record { occupied = plus 3 4; free = minus 1 2 }) (plus 4 1)
 
@@ -70,7 +70,8 @@ grid0 = record { odds = odds4; stamps = 0 ∷ 0 ∷ 7 ∷ 1 ∷ [] }
 abbrev pub grid3 : Grid
 grid3 = record { odds = odds4 ++ odds4 ++ odds4; stamps = 0 ∷ 1 ∷ 2 ∷ 3 ∷ replicate 8 0 }
 
--- Opening the last of these opens the definitions that the examples compute through, and the library's float operations.
+-- Opening the last of these opens the definitions that the examples compute through, and the library's float
+-- operations.
 unfoldable openedFloats : ℕ
 unfolding numberF mag allFinite round add sub neg mul div lt le eq ofInt toSigned toUnsigned ofBits fits
 openedFloats = 0

@@ -1,4 +1,5 @@
--- From what can be said of a float, that it is a whole multiple of the unit and of no great size, to its number of units. Assumes nothing.
+-- From what can be said of a float, that it is a whole multiple of the unit and of no great size, to its number of
+-- units. Assumes nothing.
 use mathlib.Core.Path.{_≡_, refl, sym, ap, _∙_}
 use Prim.Native.Nat.{ℕ, _+_, _*_, _/_, _%_, _^_, _<_}
 use native.Mathlib.Nat.{div-add-mod', add-zero}

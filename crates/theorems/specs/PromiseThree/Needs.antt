@@ -1,5 +1,6 @@
--- No premise that promise 3 draws on can be left out: for each, an example that fails this premise alone, and where a conclusion fails with it.
--- (That the extents are in bounds is asked by every entry; the conclusions do not turn on it.) By computation of the definitions.
+-- No premise that promise 3 draws on can be left out: for each, an example that fails this premise alone, and where a
+-- conclusion fails with it. (That the extents are in bounds is asked by every entry; the conclusions do not turn on
+-- it.) By computation of the definitions.
 use Prim.Native.Nat.{ℕ}
 use mathlib.Core.Path.{_≡_, refl}
 use mathlib.Core.Bool.{Bool, true, false}

@@ -1,5 +1,5 @@
--- One cell of promise 3's last sentence, from its premises: a clear mark that a cloud mark takes back leaves what the cloud mark alone would.
--- Assumes nothing.
+-- One cell of promise 3's last sentence, from its premises: a clear mark that a cloud mark takes back leaves what the
+-- cloud mark alone would. Assumes nothing.
 use mathlib.Core.Path.{_≡_, refl, ap, _∙_, subst}
 use mathlib.Core.Logic.{_⊎_, inl, inr}
 use Prim.Native.Nat.{ℕ, _+_, _*_, _/_, _^_, _≤_, _<_}

@@ -1,5 +1,6 @@
--- The marks of a frame in any order, each any number of times: a cell sees only the marks on it, and whether it has any and whether one of
--- them is a cloud mark decides its stamp. And its odds, where a clear mark taken back leaves what the cloud mark alone would. Assumes nothing.
+-- The marks of a frame in any order, each any number of times: a cell sees only the marks on it, and whether it has any
+-- and whether one of them is a cloud mark decides its stamp. And its odds, where a clear mark taken back leaves what
+-- the cloud mark alone would. Assumes nothing.
 use mathlib.Core.Path.{_≡_, refl, sym, ap, _∙_}
 use mathlib.Core.List.{List, [], _∷_}
 use mathlib.Core.Logic.{_⊎_, inl, inr}

@@ -1,5 +1,5 @@
--- With multiples of the unit, a clear mark that a cloud mark takes back leaves what the cloud mark alone would: of one cell, from numbers of units.
--- Assumes nothing.
+-- With multiples of the unit, a clear mark that a cloud mark takes back leaves what the cloud mark alone would: of one
+-- cell, from numbers of units. Assumes nothing.
 use mathlib.Core.Path.{_≡_, sym, ap, ap₂, _∙_, subst}
 use Prim.Native.Nat.{ℕ, _+_, _*_, _^_, _≤_, _<_, min, max}
 use native.Mathlib.Omega.{arith}

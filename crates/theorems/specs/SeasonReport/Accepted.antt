@@ -1,4 +1,5 @@
--- What a call that was not refused has shown, and what it leaves; and the charts of two runs as those of one. Assumes nothing.
+-- What a call that was not refused has shown, and what it leaves; and the charts of two runs as those of one. Assumes
+-- nothing.
 use Prim.Native.Nat.{ℕ, _+_, _-_, _*_, _≤_, _<_}
 use mathlib.Core.Path.{_≡_, refl, sym, ap, _∙_}
 use mathlib.Core.Bool.{Bool, true, false, _&&_}

@@ -1,5 +1,6 @@
--- Calls one after another: where none is refused, they leave the marks of all that they hand over; and whether one is refused does not turn on the
--- calls before it, so the same calls in another order, or repeated, are accepted too. Assumes nothing.
+-- Calls one after another: where none is refused, they leave the marks of all that they hand over; and whether one is
+-- refused does not turn on the calls before it, so the same calls in another order, or repeated, are accepted too.
+-- Assumes nothing.
 use Prim.Native.Nat.{ℕ}
 use mathlib.Core.Path.{_≡_, refl, sym, ap, ap₂, _∙_, subst}
 use mathlib.Core.Logic.{inl, inr}

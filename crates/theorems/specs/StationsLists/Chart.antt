@@ -1,5 +1,5 @@
--- The chart of what a night leaves: each cell has no higher grade than a lone cloud vote would give it, or the very odds; so no number of the chart is higher.
--- And the map to compare with is there, whatever the beams. Assumes nothing.
+-- The chart of what a night leaves: each cell has no higher grade than a lone cloud vote would give it, or the very
+-- odds; so no number of the chart is higher. And the map to compare with is there, whatever the beams. Assumes nothing.
 use Prim.Native.Nat.{ℕ, zero, suc, _+_, _*_, _≤_, _<_}
 use mathlib.Core.Path.{_≡_, refl, sym, ap, _∙_, subst}
 use mathlib.Core.Logic.{_⊎_, inl, inr}

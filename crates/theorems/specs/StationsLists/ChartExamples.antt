@@ -1,5 +1,5 @@
--- Near the floor the order shows on the chart, and never as a thicker layer: a map of 2 by 2 by 3 with ceiling 2, so floor -2, and odds of -1.5 at cell 1, which
--- one beam crosses and another hits. By computation of the definitions.
+-- Near the floor the order shows on the chart, and never as a thicker layer: a map of 2 by 2 by 3 with ceiling 2, so
+-- floor -2, and odds of -1.5 at cell 1, which one beam crosses and another hits. By computation of the definitions.
 use Prim.Native.Nat.{ℕ}
 use mathlib.Core.Path.{_≡_, refl}
 use mathlib.Core.List.{List, [], _∷_}
@@ -48,7 +48,8 @@ pub record Charts : Type 0 where
   pub sweep-opened : Opened head grid
   pub in-units : InUnits binary64 head grid
   pub none-refused : NoneRefused binary64 head grid clearFirst × NoneRefused binary64 head grid cloudFirst
-  -- -1.25 in one order, an eighth; -0.75, as a lone vote leaves it, in the other: two eighths. So the premise about the floor is needed for the same chart.
+  -- odds of -1.25 in one order, an eighth; of -0.75, as a lone vote leaves it, in the other: two eighths. So the
+  -- premise about the floor is needed for the same chart.
   pub clear-first : asked (night binary64 head grid clearFirst .odds) ≡ record { answer = given tt; lent = chart 1 64 }
   pub cloud-first : asked (night binary64 head grid cloudFirst .odds) ≡ record { answer = given tt; lent = chart 2 128 }
 

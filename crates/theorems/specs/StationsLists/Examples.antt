@@ -1,5 +1,6 @@
--- The promise is not empty: on a map of three axes a night of all six kinds of calls that meets every premise, with the counts; and the same night
--- backwards, whose counts differ and whose stamps and odds do not. By computation of the definitions.
+-- The promise is not empty: on a map of three axes a night of all six kinds of calls that meets every premise, with the
+-- counts; and the same night backwards, whose counts differ and whose stamps and odds do not. By computation of the
+-- definitions.
 use Prim.Native.Nat.{ℕ}
 use mathlib.Core.Path.{_≡_, refl}
 use mathlib.Core.Bool.{Bool, true, _&&_}
@@ -47,8 +48,8 @@ list = flat-list (halfF ∷ halfF ∷ halfF ∷ plus 3 2 ∷ halfF ∷ halfF ∷
 abbrev pub structs : Call
 structs = slice (clear (halfF ∷ []) ∷ [])
 
--- station 7 mails the Hit again and one on the layer above, an older one looks straight up from cell 1, a keeper sends the first beam again, and marks cell 3,
--- which the structs' beam crosses
+-- station 7 mails the Hit again and one on the layer above, an older one looks straight up from cell 1, a keeper sends
+-- the first beam again, and marks cell 3, which the structs' beam crosses
 abbrev mailed : Call
 mailed = file (sweepBytes 3 7 (cloud (halfF ∷ []) ∷ cloud (plus 3 2 ∷ []) ∷ []))
 

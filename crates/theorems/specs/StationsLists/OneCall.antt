@@ -1,5 +1,5 @@
--- One call of a night. What shows, of a call that was not refused, that it would not be on any grid of these lengths; and of such a call, that it leaves the
--- marks of the beams that it hands over. Assumes nothing.
+-- One call of a night. What shows, of a call that was not refused, that it would not be on any grid of these lengths;
+-- and of such a call, that it leaves the marks of the beams that it hands over. Assumes nothing.
 use Prim.Native.Nat.{ℕ, suc, _+_}
 use mathlib.Core.Path.{_≡_, refl, sym, ap, _∙_, subst}
 use mathlib.Core.Logic.{inl, inr}

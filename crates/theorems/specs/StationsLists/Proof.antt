@@ -1,5 +1,5 @@
--- A night is one list of beams and marks, on the grid that `begin_scan` opened. So what promise 3 says of the marks of a list holds of what the calls leave.
--- Assumes nothing.
+-- A night is one list of beams and marks, on the grid that `begin_scan` opened. So what promise 3 says of the marks of
+-- a list holds of what the calls leave. Assumes nothing.
 use mathlib.Core.Path.{_≡_, sym, ap, _∙_, subst}
 use mathlib.Core.List.{List}
 use lib.Ieee.{Format}

@@ -1,5 +1,5 @@
--- The calls of a night, the beams and marks that they hand over, and what they leave: the words in which `StationsLists` is said, beside the rules' and promise 3's.
--- Definitions only.
+-- The calls of a night, the beams and marks that they hand over, and what they leave: the words in which
+-- `StationsLists` is said, beside the rules' and promise 3's. Definitions only.
 use Prim.Native.Nat.{ℕ}
 use mathlib.Core.Path.{_≡_}
 use mathlib.Core.List.{List, [], _∷_, _++_}
@@ -19,7 +19,8 @@ use Rattle.theorems.specs.PromiseThree.{headOpened, gridOpened, Multiple
 use Rattle.theorems.specs.VerticalBeam.{generalBeam}
 
 -- ---- the calls that integrate or mark
--- `update_ray`, `update_scan`, a slice of beams, `update_sweep` of any bytes, `update_vertical3`; and `mark_occupied` or `mark_free` on a cell
+-- `update_ray`, `update_scan`, a slice of beams, `update_sweep` of any bytes, `update_vertical3`; and `mark_occupied`
+-- or `mark_free` on a cell
 pub data Call : Type 0 where
   ray : Beam → Call
   flat-list : List Float → List ℕ → Call
@@ -88,8 +89,9 @@ handed f es [] = []
 handed f es (c ∷ cs) = handsOver f es c ++ handed f es cs
 
 -- ---- a night
--- after `begin_scan`, which answers the head or leaves it where it was lent, these calls: what the last one leaves, and that none is refused. (What the entries
--- check themselves is in this, the cuts, 15, among it: it is no premise of its own.)
+-- after `begin_scan`, which answers the head or leaves it where it was lent, these calls: what the last one leaves, and
+-- that none is refused. (What the entries check themselves is in this, the cuts, 15, among it: it is no premise of its
+-- own.)
 abbrev pub night : Format → Head → Grid → List Call → Grid
 night f h g cs = left f (headOpened h) cs (gridOpened h g)
 

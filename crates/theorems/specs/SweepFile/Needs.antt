@@ -1,5 +1,6 @@
--- The laws of the sweep file are not empty, and their premises are needed: a file with a NaN and an infinity that is read as it was written, and for each
--- premise of `written-then-read` and `read-then-written` an example that fails it, and the conclusion with it. By computation of the definitions.
+-- The laws of the sweep file are not empty, and their premises are needed: a file with a NaN and an infinity that is
+-- read as it was written, and for each premise of `written-then-read` and `read-then-written` an example that fails it,
+-- and the conclusion with it. By computation of the definitions.
 use Prim.Native.Nat.{ℕ}
 use mathlib.Core.Path.{_≡_, refl}
 use mathlib.Core.Bool.{true}

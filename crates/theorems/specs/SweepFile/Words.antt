@@ -1,5 +1,5 @@
--- The words that the laws of the sweep file are said in, beside the rules' own and those of the map record: beams as a lent list is known to hold
--- them, and what is known of a file that was read and of a refusal. Definitions only.
+-- The words that the laws of the sweep file are said in, beside the rules' own and those of the map record: beams as a
+-- lent list is known to hold them, and what is known of a file that was read and of a refusal. Definitions only.
 use Prim.Native.Nat.{ℕ, _≤_, _<_}
 use mathlib.Core.List.{List, [], _∷_}
 use mathlib.Core.Path.{_≡_}
@@ -40,7 +40,8 @@ pub record IsSweep (axes : ℕ) (bytes : List ℕ) : Type 0 where
   pub sweep : Sweep
   pub is : sweepOf axes bytes ≡ given sweep
 
--- bytes that are none: they are refused with number 12 at one offset, at most the end of the bytes, where a field begins
+-- bytes that are none: they are refused with number 12 at one offset, at most the end of the bytes, where a field
+-- begins
 pub record IsBroken (axes : ℕ) (bytes : List ℕ) : Type 0 where
   pub offset : ℕ
   pub is : sweepOf axes bytes ≡ refused (brokenSweep offset)

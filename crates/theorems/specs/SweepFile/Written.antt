@@ -1,4 +1,5 @@
--- A sweep file written and read: each field is found again, beam after beam, and the end with the count. Assumes nothing.
+-- A sweep file written and read: each field is found again, beam after beam, and the end with the count. Assumes
+-- nothing.
 use Prim.Native.Nat.{ℕ, zero, suc, _+_, _*_, _%_, _≤_, _<_}
 use mathlib.Core.Bool.{Bool, true, false, cond, _&&_}
 use mathlib.Core.List.{List, [], _∷_, _++_, append-assoc, append-nil}

@@ -1,5 +1,6 @@
--- A beam whose coordinates are numbers of halves, that starts on the map, goes down on no axis and ends on the map or on its upper faces: it is not cut, both
--- of its computed points are the given ones, and the clamp takes an end on a face half a cell back. Of every format and any number of axes. Assumes nothing.
+-- A beam whose coordinates are numbers of halves, that starts on the map, goes down on no axis and ends on the map or
+-- on its upper faces: it is not cut, both of its computed points are the given ones, and the clamp takes an end on a
+-- face half a cell back. Of every format and any number of axes. Assumes nothing.
 use mathlib.Core.Path.{_≡_, refl, sym, ap, ap₂, _∙_, subst}
 use mathlib.Core.Logic.{_⊎_, inl, inr}
 use mathlib.Core.List.{List, [], _∷_, map}

@@ -1,5 +1,5 @@
--- The line straight up a column, from one cell's centre to another's: its third axis is the primary, the other two have no increment and never move, and each
--- step is one cell. Of every format. Assumes nothing.
+-- The line straight up a column, from one cell's centre to another's: its third axis is the primary, the other two have
+-- no increment and never move, and each step is one cell. Of every format. Assumes nothing.
 use mathlib.Core.Path.{_≡_, refl, sym, ap, ap₂, _∙_}
 use mathlib.Core.List.{List, [], _∷_, _++_}
 use mathlib.Core.Bool.{Bool, true, false, cond, _&&_}

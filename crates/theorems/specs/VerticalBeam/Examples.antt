@@ -1,5 +1,5 @@
--- The general beam of a vertical one, on a map of 2 by 2 by 3 at the ends of the profile: it leaves what the vertical beam leaves (`Upright` of the rules' figures).
--- By computation of the definitions.
+-- The general beam of a vertical one, on a map of 2 by 2 by 3 at the ends of the profile: it leaves what the vertical
+-- beam leaves (`Upright` of the rules' figures). By computation of the definitions.
 use Prim.Native.Nat.{ℕ}
 use mathlib.Core.Path.{_≡_, refl}
 use mathlib.Core.Bool.{Bool, true, false}

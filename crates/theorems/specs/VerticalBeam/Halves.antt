@@ -1,5 +1,5 @@
--- Numbers of halves: every coordinate of a vertical beam is one, and the sums, differences, products and comparisons that it meets are exact. Of every format.
--- Assumes nothing.
+-- Numbers of halves: every coordinate of a vertical beam is one, and the sums, differences, products and comparisons
+-- that it meets are exact. Of every format. Assumes nothing.
 use mathlib.Core.Path.{_≡_, refl, sym, ap, ap₂, _∙_, subst}
 use mathlib.Core.Bool.{Bool, true, false, not, cond, true≢false, _&&_, _||_}
 use Prim.Native.Nat.{ℕ, zero, suc, _+_, _-_, _*_, _/_, _^_, _≤_, _<_, min}

@@ -1,5 +1,5 @@
--- The theorem: the vertical beam's coordinates are numbers of halves, so clipping leaves it as it is, and the line up its column yields its cells.
--- Assumes nothing.
+-- The theorem: the vertical beam's coordinates are numbers of halves, so clipping leaves it as it is, and the line up
+-- its column yields its cells. Assumes nothing.
 use mathlib.Core.Path.{_≡_, refl, sym, ap, ap₂, _∙_, subst}
 use mathlib.Core.Logic.{_⊎_, inl, inr}
 use mathlib.Core.List.{List, [], _∷_}

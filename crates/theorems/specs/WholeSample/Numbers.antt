@@ -1,5 +1,5 @@
--- Coordinates that are whole numbers, -0.0 among them: their order, their cell, their offset from it, and the stencil along one axis.
--- Assumes nothing.
+-- Coordinates that are whole numbers, -0.0 among them: their order, their cell, their offset from it, and the stencil
+-- along one axis. Assumes nothing.
 use mathlib.Core.Path.{_≡_, refl, sym, ap, ap₂, _∙_, subst}
 use mathlib.Core.Option.{some, none}
 use mathlib.Core.Logic.{_⊎_, inl, inr}

@@ -1,5 +1,6 @@
--- The sum over the corners of a stencil, where every offset is a zero or a one: the weights are zeros but for one corner's, which is one,
--- so the sum is that corner's odds, but that a zero may change its sign. Over any number of axes. Assumes nothing.
+-- The sum over the corners of a stencil, where every offset is a zero or a one: the weights are zeros but for one
+-- corner's, which is one, so the sum is that corner's odds, but that a zero may change its sign. Over any number of
+-- axes. Assumes nothing.
 use mathlib.Core.Path.{_≡_, refl, sym, ap, subst}
 use mathlib.Core.List.{List, [], _∷_}
 use mathlib.Core.Logic.{_⊎_, inl, inr}

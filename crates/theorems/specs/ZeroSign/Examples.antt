@@ -1,5 +1,6 @@
--- A choice that takes the other zero, on the map of 10 by 8: the Hit from (10, 0.5) to (9, 0.5), whose near fraction is -0.0, and one from (-0.0, 0.5), whose
--- clipped points differ in a zero's sign. Their marks are the same. By computation of the definitions.
+-- A choice that takes the other zero, on the map of 10 by 8: the Hit from (10, 0.5) to (9, 0.5), whose near fraction is
+-- -0.0, and one from (-0.0, 0.5), whose clipped points differ in a zero's sign. Their marks are the same. By
+-- computation of the definitions.
 use Prim.Native.Nat.{ℕ}
 use mathlib.Core.Path.{_≡_, refl}
 use mathlib.Core.Bool.{Bool, true, false, cond, _&&_}

@@ -1,5 +1,5 @@
--- Numbers that are equal but for a zero's sign: comparisons, sums, products and truncation do not tell them apart, again but for a zero's sign. Of any float,
--- finite or not, and any format. Assumes nothing.
+-- Numbers that are equal but for a zero's sign: comparisons, sums, products and truncation do not tell them apart,
+-- again but for a zero's sign. Of any float, finite or not, and any format. Assumes nothing.
 use Prim.Native.Nat.{ℕ, zero, suc, _-_, _*_, _/_, _^_, _<_, min, zero-le}
 use mathlib.Core.Bool.{Bool, true, false, cond, _&&_, _||_}
 use mathlib.Core.Logic.{inl, inr}

@@ -1,5 +1,5 @@
--- Points and lines that are equal but for the signs of zero coordinates: a clipped point is in the same cell, and a line between two of them yields the same
--- cells. Over any number of axes. Assumes nothing.
+-- Points and lines that are equal but for the signs of zero coordinates: a clipped point is in the same cell, and a
+-- line between two of them yields the same cells. Over any number of axes. Assumes nothing.
 use Prim.Native.Nat.{ℕ, zero, suc, _-_}
 use mathlib.Core.Bool.{Bool, true, false, cond, _||_}
 use mathlib.Core.List.{List, [], _∷_}

@@ -1,5 +1,5 @@
--- The sign of a zero fraction never shows, proved: the fractions are the same but for a zero's sign, so the points are, and then the line's cells are equal.
--- Assumes nothing.
+-- The sign of a zero fraction never shows, proved: the fractions are the same but for a zero's sign, so the points are,
+-- and then the line's cells are equal. Assumes nothing.
 use Prim.Native.Nat.{ℕ, suc}
 use mathlib.Core.Bool.{Bool, true, false, cond, _&&_, _||_}
 use mathlib.Core.List.{List, [], _∷_}
