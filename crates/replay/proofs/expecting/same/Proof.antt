@@ -4,21 +4,18 @@ use borrow.Author.Needs.{needs}
 use Rattle.replay.proofs.expecting.same.Statement.{statement}
 use Rattle.replay.proofs.expecting.same.Tie as tie
 
-returns : tie.Need-returns
-returns c = search needs
-
-returns-2 : tie.Need-returns-2
-returns-2 c = search needs
-
 float-to-bits-result : tie.Need-float-to-bits-result
 float-to-bits-result c = no-nan (c .before .before .args .a) (c .before .if1 .left)
 
 float-to-bits-result-2 : tie.Need-float-to-bits-result-2
 float-to-bits-result-2 c = no-nan (c .before .before .args .b) (c .if2 .left)
 
-returns-3 : tie.Need-returns-3
-returns-3 c = search needs
-
 pub same-spec : {M : Type 1} → statement M
 same-spec =
-    tie.close (tie.spec returns returns-2 float-to-bits-result float-to-bits-result-2 returns-3)
+    tie.close
+    (tie.spec
+    (λ c. search needs)
+    (λ c. search needs)
+    float-to-bits-result
+    float-to-bits-result-2
+    (λ c. search needs))

@@ -5,63 +5,24 @@ use borrow.Author.Needs.{needs}
 use Rattle.replay.proofs.looking.stencil3.Statement.{statement}
 use Rattle.replay.proofs.looking.stencil3.Tie as tie
 
-spoiled-requires : tie.Need-spoiled-requires
-spoiled-requires c κs = search needs
-
-returns : tie.Need-returns
-returns c = search needs
-
-spoiled-requires-2 : tie.Need-spoiled-requires-2
-spoiled-requires-2 c κs = search needs
-
-returns-2 : tie.Need-returns-2
-returns-2 c = search needs
-
-spoiled-requires-3 : tie.Need-spoiled-requires-3
-spoiled-requires-3 c κs = search needs
-
-returns-3 : tie.Need-returns-3
-returns-3 c = search needs
-
 stencil-containing3-requires : tie.Need-stencil-containing3-requires
 stencil-containing3-requires c κs = at-least-one _ _ (omega arith) (at-least-one _ _ (omega arith) (at-least-one _ _ (omega arith) at-least-none))
-
-enum-known-s : tie.Need-enum-known-s
-enum-known-s c = search needs
-
-expect-stencil3-requires : tie.Need-expect-stencil3-requires
-expect-stencil3-requires c κs = search needs
-
-enum-told : tie.Need-enum-told
-enum-told c = search needs
-
-slice-aggregate-expect-text : tie.Need-slice-aggregate-expect-text
-slice-aggregate-expect-text c = search needs
-
-expect-text-requires : tie.Need-expect-text-requires
-expect-text-requires c κs = search needs
-
-returns-4 : tie.Need-returns-4
-returns-4 c = search needs
-
-returns-5 : tie.Need-returns-5
-returns-5 c = search needs
 
 pub stencil3-spec : {M : Type 1} → statement M
 stencil3-spec =
     tie.close
     (tie.spec
-    spoiled-requires
-    returns
-    spoiled-requires-2
-    returns-2
-    spoiled-requires-3
-    returns-3
+    (λ c κs. search needs)
+    (λ c. search needs)
+    (λ c κs. search needs)
+    (λ c. search needs)
+    (λ c κs. search needs)
+    (λ c. search needs)
     stencil-containing3-requires
-    enum-known-s
-    expect-stencil3-requires
-    enum-told
-    slice-aggregate-expect-text
-    expect-text-requires
-    returns-4
-    returns-5)
+    (λ c. search needs)
+    (λ c κs. search needs)
+    (λ c. search needs)
+    (λ c. search needs)
+    (λ c κs. search needs)
+    (λ c. search needs)
+    (λ c. search needs))
