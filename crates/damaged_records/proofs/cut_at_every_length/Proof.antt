@@ -12,23 +12,15 @@ Inv-loop bytes n₀ n = n ≤ length bytes
 abbrev μ-loop : tie.MeasureT-loop
 μ-loop bytes n₀ n = length bytes - n
 
-loop-holds : tie.Need-loop-holds Inv-loop μ-loop
-loop-holds c = search needs
-
-cut-to-requires : tie.Need-cut-to-requires Inv-loop μ-loop
-cut-to-requires c κs = search needs
-
-add-length : tie.Need-add-length Inv-loop μ-loop
-add-length c = omega arith
-
-loop-less : tie.Need-loop-less Inv-loop μ-loop
-loop-less c = omega arith
-
-loop-again : tie.Need-loop-again Inv-loop μ-loop
-loop-again c = omega arith
-
-returns : tie.Need-returns Inv-loop μ-loop
-returns c = search needs
-
 pub cut-at-every-length-spec : {M : Type 1} → statement M
-cut-at-every-length-spec = tie.close (tie.spec Inv-loop μ-loop loop-holds cut-to-requires add-length loop-less loop-again returns)
+cut-at-every-length-spec =
+    tie.close
+    (tie.spec
+    Inv-loop
+    μ-loop
+    (λ c. search needs)
+    (λ c κs. search needs)
+    (λ c. omega arith)
+    (λ c. omega arith)
+    (λ c. omega arith)
+    (λ c. search needs))
