@@ -5,14 +5,8 @@ use Rattle.c_types.specs.Lines.{cLine3}
 use Rattle.tembuzar.proofs.lines.tembuzar_plotter3.Statement.{statement}
 use Rattle.tembuzar.proofs.lines.tembuzar_plotter3.Tie as tie
 
-plotter-requires : tie.Need-plotter-requires
-plotter-requires c κs = search needs
-
-line3-to-c-requires : tie.Need-line3-to-c-requires
-line3-to-c-requires c κs = search needs
-
 returns : tie.Need-returns
 returns c = c .line3-to-c .ensures ∙ ap cLine3 (c .before .plotter .ensures)
 
 pub tembuzar-plotter3-spec : {M : Type 1} → statement M
-tembuzar-plotter3-spec = tie.close (tie.spec plotter-requires line3-to-c-requires returns)
+tembuzar-plotter3-spec = tie.close (tie.spec (λ c κs. search needs) (λ c κs. search needs) returns)

@@ -5,14 +5,8 @@ use Rattle.c_types.specs.Lines.{cStep3}
 use Rattle.tembuzar.proofs.lines.tembuzar_step3.Statement.{statement}
 use Rattle.tembuzar.proofs.lines.tembuzar_step3.Tie as tie
 
-next-requires : tie.Need-next-requires
-next-requires c κs = search needs
-
-step3-to-c-requires : tie.Need-step3-to-c-requires
-step3-to-c-requires c κs = search needs
-
 returns : tie.Need-returns
 returns c = c .step3-to-c .ensures ∙ ap (cStep3 (c .before .before .args .line)) (c .before .next .ensures)
 
 pub tembuzar-step3-spec : {M : Type 1} → statement M
-tembuzar-step3-spec = tie.close (tie.spec next-requires step3-to-c-requires returns)
+tembuzar-step3-spec = tie.close (tie.spec (λ c κs. search needs) (λ c κs. search needs) returns)

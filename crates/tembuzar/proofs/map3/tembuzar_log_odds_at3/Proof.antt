@@ -5,14 +5,8 @@ use Rattle.c_types.specs.Answers.{cOdds}
 use Rattle.tembuzar.proofs.map3.tembuzar_log_odds_at3.Statement.{statement}
 use Rattle.tembuzar.proofs.map3.tembuzar_log_odds_at3.Tie as tie
 
-log-odds-at-requires : tie.Need-log-odds-at-requires
-log-odds-at-requires c κs = search needs
-
-odds-to-c-requires : tie.Need-odds-to-c-requires
-odds-to-c-requires c κs = search needs
-
 returns : tie.Need-returns
 returns c = c .odds-to-c .ensures ∙ ap cOdds (c .before .log-odds-at .ensures)
 
 pub tembuzar-log-odds-at3-spec : {M : Type 1} → statement M
-tembuzar-log-odds-at3-spec = tie.close (tie.spec log-odds-at-requires odds-to-c-requires returns)
+tembuzar-log-odds-at3-spec = tie.close (tie.spec (λ c κs. search needs) (λ c κs. search needs) returns)

@@ -5,18 +5,9 @@ use Rattle.c_types.specs.Answers.{cCount}
 use Rattle.tembuzar.proofs.record.tembuzar_write_record2.Statement.{statement}
 use Rattle.tembuzar.proofs.record.tembuzar_write_record2.Tie as tie
 
-write-record2-requires : tie.Need-write-record2-requires
-write-record2-requires c κs = search needs
-
-count-to-c-requires : tie.Need-count-to-c-requires
-count-to-c-requires c κs = search needs
-
-same-length : tie.Need-same-length
-same-length c = search needs
-
 returns : tie.Need-returns
 returns c = told cCount _ _ _ (c .count-to-c .ensures) (c .before .before .before .write-record2 .ensures)
 
 pub tembuzar-write-record2-spec : {M : Type 1} → statement M
 tembuzar-write-record2-spec =
-    tie.close (tie.spec write-record2-requires count-to-c-requires same-length returns)
+    tie.close (tie.spec (λ c κs. search needs) (λ c κs. search needs) (λ c. search needs) returns)

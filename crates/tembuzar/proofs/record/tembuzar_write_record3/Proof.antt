@@ -5,18 +5,9 @@ use Rattle.c_types.specs.Answers.{cCount}
 use Rattle.tembuzar.proofs.record.tembuzar_write_record3.Statement.{statement}
 use Rattle.tembuzar.proofs.record.tembuzar_write_record3.Tie as tie
 
-write-record3-requires : tie.Need-write-record3-requires
-write-record3-requires c κs = search needs
-
-count-to-c-requires : tie.Need-count-to-c-requires
-count-to-c-requires c κs = search needs
-
-same-length : tie.Need-same-length
-same-length c = search needs
-
 returns : tie.Need-returns
 returns c = told cCount _ _ _ (c .count-to-c .ensures) (c .before .before .before .write-record3 .ensures)
 
 pub tembuzar-write-record3-spec : {M : Type 1} → statement M
 tembuzar-write-record3-spec =
-    tie.close (tie.spec write-record3-requires count-to-c-requires same-length returns)
+    tie.close (tie.spec (λ c κs. search needs) (λ c κs. search needs) (λ c. search needs) returns)

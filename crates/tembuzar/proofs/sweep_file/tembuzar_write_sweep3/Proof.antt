@@ -5,18 +5,9 @@ use Rattle.c_types.specs.Answers.{cCount}
 use Rattle.tembuzar.proofs.sweep_file.tembuzar_write_sweep3.Statement.{statement}
 use Rattle.tembuzar.proofs.sweep_file.tembuzar_write_sweep3.Tie as tie
 
-write-sweep3-requires : tie.Need-write-sweep3-requires
-write-sweep3-requires c κs = search needs
-
-count-to-c-requires : tie.Need-count-to-c-requires
-count-to-c-requires c κs = search needs
-
-same-length : tie.Need-same-length
-same-length c = search needs
-
 returns : tie.Need-returns
 returns c = told cCount _ _ _ (c .count-to-c .ensures) (c .before .before .before .write-sweep3 .ensures)
 
 pub tembuzar-write-sweep3-spec : {M : Type 1} → statement M
 tembuzar-write-sweep3-spec =
-    tie.close (tie.spec write-sweep3-requires count-to-c-requires same-length returns)
+    tie.close (tie.spec (λ c κs. search needs) (λ c κs. search needs) (λ c. search needs) returns)
