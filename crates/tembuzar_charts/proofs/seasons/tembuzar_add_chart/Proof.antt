@@ -5,17 +5,8 @@ use Rattle.c_types.specs.Answers.{cCount}
 use Rattle.tembuzar_charts.proofs.seasons.tembuzar_add_chart.Statement.{statement}
 use Rattle.tembuzar_charts.proofs.seasons.tembuzar_add_chart.Tie as tie
 
-add-chart-requires : tie.Need-add-chart-requires
-add-chart-requires c κs = search needs
-
-count-to-c-requires : tie.Need-count-to-c-requires
-count-to-c-requires c κs = search needs
-
-same-length : tie.Need-same-length
-same-length c = search needs
-
 returns : tie.Need-returns
 returns c = told cCount _ _ _ (c .count-to-c .ensures) (c .before .before .before .add-chart .ensures)
 
 pub tembuzar-add-chart-spec : {M : Type 1} → statement M
-tembuzar-add-chart-spec = tie.close (tie.spec add-chart-requires count-to-c-requires same-length returns)
+tembuzar-add-chart-spec = tie.close (tie.spec (λ c κs. search needs) (λ c κs. search needs) (λ c. search needs) returns)

@@ -5,17 +5,14 @@ use Rattle.c_types.specs.Answers.{cCount}
 use Rattle.tembuzar_charts.proofs.seasons.tembuzar_join_reports.Statement.{statement}
 use Rattle.tembuzar_charts.proofs.seasons.tembuzar_join_reports.Tie as tie
 
-join-reports-requires : tie.Need-join-reports-requires
-join-reports-requires c κs = search needs
-
-count-to-c-requires : tie.Need-count-to-c-requires
-count-to-c-requires c κs = search needs
-
-same-length : tie.Need-same-length
-same-length c = search needs
-
 returns : tie.Need-returns
 returns c = told cCount _ _ _ (c .count-to-c .ensures) (c .before .before .before .join-reports .ensures)
 
 pub tembuzar-join-reports-spec : {M : Type 1} → statement M
-tembuzar-join-reports-spec = tie.close (tie.spec join-reports-requires count-to-c-requires same-length returns)
+tembuzar-join-reports-spec =
+    tie.close
+    (tie.spec
+    (λ c κs. search needs)
+    (λ c κs. search needs)
+    (λ c. search needs)
+    returns)
