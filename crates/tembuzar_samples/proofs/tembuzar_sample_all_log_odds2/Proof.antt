@@ -5,21 +5,9 @@ use Rattle.c_types.specs.Answers.{cSet}
 use Rattle.tembuzar_samples.proofs.tembuzar_sample_all_log_odds2.Statement.{statement}
 use Rattle.tembuzar_samples.proofs.tembuzar_sample_all_log_odds2.Tie as tie
 
-sample-all-log-odds2-requires : tie.Need-sample-all-log-odds2-requires
-sample-all-log-odds2-requires c κs = search needs
-
-set-to-c-requires : tie.Need-set-to-c-requires
-set-to-c-requires c κs = search needs
-
-same-length : tie.Need-same-length
-same-length c = search needs
-
-same-length-2 : tie.Need-same-length-2
-same-length-2 c = search needs
-
 returns : tie.Need-returns
 returns c = told cSet _ _ _ (c .set-to-c .ensures) (c .before .before .before .before .before .sample-all-log-odds2 .ensures)
 
 pub tembuzar-sample-all-log-odds2-spec : {M : Type 1} → statement M
 tembuzar-sample-all-log-odds2-spec =
-    tie.close (tie.spec sample-all-log-odds2-requires set-to-c-requires same-length same-length-2 returns)
+    tie.close (tie.spec (λ c κs. search needs) (λ c κs. search needs) (λ c. search needs) (λ c. search needs) returns)
