@@ -20,14 +20,8 @@ loop-holds : tie.Need-loop-holds Inv-loop μ-loop
 unfolding plus
 loop-holds c = (omega arith, refl, refl)
 
-mul-sum : tie.Need-mul-sum Inv-loop μ-loop
-mul-sum c = search needs
-
 slice-read-sum : tie.Need-slice-read-sum Inv-loop μ-loop
 slice-read-sum c = c .before .loop-test .taken
-
-mul-sum-2 : tie.Need-mul-sum-2 Inv-loop μ-loop
-mul-sum-2 c = search needs
 
 shared-slice-read-sum : tie.Need-shared-slice-read-sum Inv-loop μ-loop
 shared-slice-read-sum c =
@@ -44,9 +38,6 @@ add-sum c =
     let kept = at-loop .loop .inv .2 in
     let e = next-number (now (start .args .report)) (now (start .args .other)) (at-loop .loop .i) _ (at-loop .loop .inv .1) (omega arith) in
     omega (arith, start .pre .1 (at-loop .loop .i))
-
-mul-report : tie.Need-mul-report Inv-loop μ-loop
-mul-report c = search needs
 
 slice-write-report : tie.Need-slice-write-report Inv-loop μ-loop
 slice-write-report c = c .before .before .loop-test .taken
@@ -88,12 +79,12 @@ add-all-spec =
     Inv-loop
     μ-loop
     loop-holds
-    mul-sum
+    (λ c. search needs)
     slice-read-sum
-    mul-sum-2
+    (λ c. search needs)
     shared-slice-read-sum
     add-sum
-    mul-report
+    (λ c. search needs)
     slice-write-report
     add-i
     loop-less

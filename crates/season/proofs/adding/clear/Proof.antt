@@ -18,18 +18,6 @@ abbrev μ-loop : tie.MeasureT-loop
 loop-holds : tie.Need-loop-holds Inv-loop μ-loop
 loop-holds c = none-filled 0 _
 
-mul-report : tie.Need-mul-report Inv-loop μ-loop
-mul-report c = search needs
-
-slice-write-report : tie.Need-slice-write-report Inv-loop μ-loop
-slice-write-report c = search needs
-
-add-i : tie.Need-add-i Inv-loop μ-loop
-add-i c = search needs
-
-loop-less : tie.Need-loop-less Inv-loop μ-loop
-loop-less c = search needs
-
 loop-again : tie.Need-loop-again Inv-loop μ-loop
 loop-again c =
     let l = c .before .loop in
@@ -54,10 +42,10 @@ clear-spec =
     Inv-loop
     μ-loop
     loop-holds
-    mul-report
-    slice-write-report
-    add-i
-    loop-less
+    (λ c. search needs)
+    (λ c. search needs)
+    (λ c. search needs)
+    (λ c. search needs)
     loop-again
     same-length
     returns)

@@ -6,9 +6,6 @@ use borrow.Author.Needs.{needs}
 use Rattle.season.proofs.adding.differ.Statement.{statement}
 use Rattle.season.proofs.adding.differ.Tie as tie
 
-mul-if1 : tie.Need-mul-if1
-mul-if1 c = search needs
-
 returns : tie.Need-returns
 returns c = rw (eq-eqb (64 * c .before .args .total) (c .before .args .random) (c .if1 .taken)) refl
 
@@ -16,4 +13,4 @@ returns-2 : tie.Need-returns-2
 returns-2 c = rw (ne-eqb (64 * c .before .args .total) (c .before .args .random) (c .if1 .left)) refl
 
 pub differ-spec : {M : Type 1} → statement M
-differ-spec = tie.close (tie.spec mul-if1 returns returns-2)
+differ-spec = tie.close (tie.spec (λ c. search needs) returns returns-2)

@@ -12,9 +12,6 @@ use borrow.Author.Needs.{needs}
 use Rattle.season.proofs.entries.add_charts.Statement.{statement}
 use Rattle.season.proofs.entries.add_charts.Tie as tie
 
-same-sizes-requires : tie.Need-same-sizes-requires
-same-sizes-requires c κs = search needs
-
 -- the sizes have been found equal
 sizes : (c : tie.Then1) → let a = c .before .before .before .before .args in
     (length (now (a .report)) ≡ 12 * (length (now (a .report)) / 12)) × (length (now (a .run)) ≡ 5 * (length (now (a .report)) / 12) * a .count)
@@ -25,9 +22,6 @@ sizes c =
 -- the charts are few
 most : (c : tie.Then2) → let a = c .before .before .before .before .before .before .args in a .charts + a .count ≤ 4096
 most c = leb-true _ _ (sym (c .before .few .ensures) ∙ c .if2 .taken)
-
-few-requires : tie.Need-few-requires
-few-requires c κs = search needs
 
 mul-good-columns : tie.Need-mul-good-columns
 mul-good-columns c =
@@ -60,9 +54,6 @@ add-run-requires c κs =
 add-t21 : tie.Need-add-t21
 add-t21 c = let m = most (c .before .before .before .before .before .before .before .before .before) in omega arith
 
-same-length : tie.Need-same-length
-same-length c = search needs
-
 returns : tie.Need-returns
 unfolding addChartsEntry
 returns c =
@@ -72,9 +63,6 @@ returns c =
     let first = second .before .before in
     rw (sym (first .before .same-sizes .ensures) ∙ first .if1 .taken, sym (second .before .few .ensures) ∙ second .if2 .taken)
     (rw (sym (third .before .good-columns .ensures) ∙ third .if3 .taken, sym (fourth .before .good-report .ensures) ∙ fourth .if4 .taken, c .before .before .add-run .ensures) refl)
-
-same-length-2 : tie.Need-same-length-2
-same-length-2 c = search needs
 
 returns-2 : tie.Need-returns-2
 unfolding addChartsEntry
@@ -107,16 +95,16 @@ pub add-charts-spec : {M : Type 1} → statement M
 add-charts-spec =
     tie.close
     (tie.spec
-    same-sizes-requires
-    few-requires
+    (λ c κs. search needs)
+    (λ c κs. search needs)
     mul-good-columns
     good-columns-requires
     good-report-requires
     add-run-requires
     add-t21
-    same-length
+    (λ c. search needs)
     returns
-    same-length-2
+    (λ c. search needs)
     returns-2
     returns-3
     returns-4

@@ -12,9 +12,6 @@ use borrow.Author.Needs.{needs}
 use Rattle.season.proofs.entries.join_reports.Statement.{statement}
 use Rattle.season.proofs.entries.join_reports.Tie as tie
 
-same-reports-requires : tie.Need-same-reports-requires
-same-reports-requires c κs = search needs
-
 -- the sizes have been found equal
 sizes : (c : tie.Then1) → let a = c .before .before .before .before .args in
     (length (now (a .report)) ≡ 12 * (length (now (a .report)) / 12)) × (length (now (a .other)) ≡ length (now (a .report)))
@@ -25,9 +22,6 @@ sizes c =
 -- the charts are few
 most : (c : tie.Then2) → let a = c .before .before .before .before .before .before .args in a .charts + a .more ≤ 4096
 most c = leb-true _ _ (sym (c .before .few .ensures) ∙ c .if2 .taken)
-
-few-requires : tie.Need-few-requires
-few-requires c κs = search needs
 
 good-report-requires : tie.Need-good-report-requires
 good-report-requires c κs =
@@ -60,9 +54,6 @@ add-all-requires c κs =
 add-t17 : tie.Need-add-t17
 add-t17 c = let m = most (c .before .before .before .before .before .before .before .before .before) in omega arith
 
-same-length : tie.Need-same-length
-same-length c = search needs
-
 returns : tie.Need-returns
 unfolding joinReportsEntry
 returns c =
@@ -73,9 +64,6 @@ returns c =
     rw (sym (first .before .same-reports .ensures) ∙ first .if1 .taken, sym (second .before .few .ensures) ∙ second .if2 .taken)
     (rw (sym (third .before .good-report .ensures) ∙ third .if3 .taken, sym (fourth .before .good-report2 .ensures) ∙ fourth .if4 .taken, c .before .before .add-all .ensures) refl)
 
-same-length-2 : tie.Need-same-length-2
-same-length-2 c = search needs
-
 returns-2 : tie.Need-returns-2
 unfolding joinReportsEntry
 returns-2 c =
@@ -84,9 +72,6 @@ returns-2 c =
     let first = second .before .before in
     rw (sym (first .before .same-reports .ensures) ∙ first .if1 .taken, sym (second .before .few .ensures) ∙ second .if2 .taken)
     (rw (sym (third .before .good-report .ensures) ∙ third .if3 .taken, sym (c .before .good-report2 .ensures) ∙ c .if4 .left) refl)
-
-same-length-3 : tie.Need-same-length-3
-same-length-3 c = search needs
 
 returns-3 : tie.Need-returns-3
 unfolding joinReportsEntry
@@ -110,17 +95,17 @@ pub join-reports-spec : {M : Type 1} → statement M
 join-reports-spec =
     tie.close
     (tie.spec
-    same-reports-requires
-    few-requires
+    (λ c κs. search needs)
+    (λ c κs. search needs)
     good-report-requires
     good-report-requires-2
     add-all-requires
     add-t17
-    same-length
+    (λ c. search needs)
     returns
-    same-length-2
+    (λ c. search needs)
     returns-2
-    same-length-3
+    (λ c. search needs)
     returns-3
     returns-4
     returns-5)

@@ -12,15 +12,6 @@ use borrow.Author.Needs.{needs}
 use Rattle.season.proofs.entries.start_report.Statement.{statement}
 use Rattle.season.proofs.entries.start_report.Tie as tie
 
-is-report-requires : tie.Need-is-report-requires
-is-report-requires c κs = search needs
-
-clear-requires : tie.Need-clear-requires
-clear-requires c κs = search needs
-
-same-length : tie.Need-same-length
-same-length c = search needs
-
 returns : tie.Need-returns
 unfolding startReportEntry
 returns c =
@@ -48,4 +39,4 @@ returns-3 c =
 
 pub start-report-spec : {M : Type 1} → statement M
 start-report-spec =
-    tie.close (tie.spec is-report-requires clear-requires same-length returns returns-2 returns-3)
+    tie.close (tie.spec (λ c κs. search needs) (λ c κs. search needs) (λ c. search needs) returns returns-2 returns-3)

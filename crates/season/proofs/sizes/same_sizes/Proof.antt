@@ -4,15 +4,6 @@ use borrow.Author.Needs.{needs}
 use Rattle.season.proofs.sizes.same_sizes.Statement.{statement}
 use Rattle.season.proofs.sizes.same_sizes.Tie as tie
 
-is-report-requires : tie.Need-is-report-requires
-is-report-requires c κs = search needs
-
-mul-so-many-each : tie.Need-mul-so-many-each
-mul-so-many-each c = search needs
-
-so-many-each-requires : tie.Need-so-many-each-requires
-so-many-each-requires c κs = search needs
-
 returns : tie.Need-returns
 returns c = rw (sym (c .before .before .is-report .ensures) ∙ c .before .if1 .taken) (c .so-many-each .ensures)
 
@@ -20,4 +11,11 @@ returns-2 : tie.Need-returns-2
 returns-2 c = rw (sym (c .before .is-report .ensures) ∙ c .if1 .left) refl
 
 pub same-sizes-spec : {M : Type 1} → statement M
-same-sizes-spec = tie.close (tie.spec is-report-requires mul-so-many-each so-many-each-requires returns returns-2)
+same-sizes-spec =
+    tie.close
+    (tie.spec
+    (λ c κs. search needs)
+    (λ c. search needs)
+    (λ c κs. search needs)
+    returns
+    returns-2)

@@ -11,30 +11,6 @@ use borrow.Author.Needs.{needs}
 use Rattle.season.proofs.tests.good_column.Statement.{statement}
 use Rattle.season.proofs.tests.good_column.Tie as tie
 
-mul-low : tie.Need-mul-low
-mul-low c = search needs
-
-shared-slice-read-low : tie.Need-shared-slice-read-low
-shared-slice-read-low c = search needs
-
-add-middle : tie.Need-add-middle
-add-middle c = search needs
-
-mul-middle : tie.Need-mul-middle
-mul-middle c = search needs
-
-shared-slice-read-middle : tie.Need-shared-slice-read-middle
-shared-slice-read-middle c = search needs
-
-add-high : tie.Need-add-high
-add-high c = search needs
-
-mul-high : tie.Need-mul-high
-mul-high c = search needs
-
-shared-slice-read-high : tie.Need-shared-slice-read-high
-shared-slice-read-high c = search needs
-
 returns : tie.Need-returns
 unfolding goodColumn
 returns c =
@@ -57,18 +33,6 @@ returns-3 c =
       lt-leb (getD (now (a .chart)) (a .at + 2) 0) 8 (c .if3 .taken),
     ) refl
 
-add-if4 : tie.Need-add-if4
-add-if4 c = search needs
-
-mul-if4 : tie.Need-mul-if4
-mul-if4 c = search needs
-
-shared-slice-read-if4 : tie.Need-shared-slice-read-if4
-shared-slice-read-if4 c = search needs
-
-maximum-overlap-requires : tie.Need-maximum-overlap-requires
-maximum-overlap-requires c κs = search needs
-
 returns-4 : tie.Need-returns-4
 unfolding goodColumn
 returns-4 c =
@@ -82,18 +46,6 @@ returns-4 c =
       ne-eqb (getD l (a .at + 3) 0) (maximumOverlap (getD l (a .at) 0) (getD l (a .at + 1) 0) (getD l (a .at + 2) 0))
           (λ e. c .if4 .taken (e ∙ sym (c .before .maximum-overlap .ensures))),
     ) refl
-
-add-result : tie.Need-add-result
-add-result c = search needs
-
-mul-result : tie.Need-mul-result
-mul-result c = search needs
-
-shared-slice-read-result : tie.Need-shared-slice-read-result
-shared-slice-read-result c = search needs
-
-random-overlap-requires : tie.Need-random-overlap-requires
-random-overlap-requires c κs = search needs
 
 returns-5 : tie.Need-returns-5
 unfolding goodColumn
@@ -114,24 +66,24 @@ pub good-column-spec : {M : Type 1} → statement M
 good-column-spec =
     tie.close
     (tie.spec
-    mul-low
-    shared-slice-read-low
-    add-middle
-    mul-middle
-    shared-slice-read-middle
-    add-high
-    mul-high
-    shared-slice-read-high
+    (λ c. search needs)
+    (λ c. search needs)
+    (λ c. search needs)
+    (λ c. search needs)
+    (λ c. search needs)
+    (λ c. search needs)
+    (λ c. search needs)
+    (λ c. search needs)
     returns
     returns-2
     returns-3
-    add-if4
-    mul-if4
-    shared-slice-read-if4
-    maximum-overlap-requires
+    (λ c. search needs)
+    (λ c. search needs)
+    (λ c. search needs)
+    (λ c κs. search needs)
     returns-4
-    add-result
-    mul-result
-    shared-slice-read-result
-    random-overlap-requires
+    (λ c. search needs)
+    (λ c. search needs)
+    (λ c. search needs)
+    (λ c κs. search needs)
     returns-5)

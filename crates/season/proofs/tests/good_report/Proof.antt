@@ -19,9 +19,6 @@ abbrev μ-loop : tie.MeasureT-loop
 loop-holds : tie.Need-loop-holds Inv-loop μ-loop
 loop-holds c = (omega arith, refl)
 
-sub-n : tie.Need-sub-n Inv-loop μ-loop
-sub-n c = omega arith
-
 mul-good-report-column : tie.Need-mul-good-report-column Inv-loop μ-loop
 mul-good-report-column c =
     let start = c .before .before .before in
@@ -76,7 +73,7 @@ good-report-spec =
     Inv-loop
     μ-loop
     loop-holds
-    sub-n
+    (λ c. omega arith)
     mul-good-report-column
     good-report-column-requires
     loop-less

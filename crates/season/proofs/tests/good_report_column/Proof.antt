@@ -11,29 +11,11 @@ use borrow.Author.Needs.{needs}
 use Rattle.season.proofs.tests.good_report_column.Statement.{statement}
 use Rattle.season.proofs.tests.good_report_column.Tie as tie
 
-mul-most : tie.Need-mul-most
-mul-most c = search needs
-
-nine-counts-requires : tie.Need-nine-counts-requires
-nine-counts-requires c κs = search needs
-
 returns : tie.Need-returns
 unfolding goodReportColumn
 returns c =
     let a = c .before .before .before .args in
     rw (ne-eqb (nineCounts (now (a .report)) (a .at)) (a .charts) (λ e. c .if1 .taken (c .before .nine-counts .ensures ∙ e))) refl
-
-add-wide : tie.Need-add-wide
-add-wide c = search needs
-
-mul-wide : tie.Need-mul-wide
-mul-wide c = search needs
-
-shared-slice-read-wide : tie.Need-shared-slice-read-wide
-shared-slice-read-wide c = search needs
-
-wide-requires : tie.Need-wide-requires
-wide-requires c κs = search needs
 
 returns-2 : tie.Need-returns-2
 unfolding goodReportColumn
@@ -46,18 +28,6 @@ returns-2 c =
       eq-eqb (nineCounts (now (a .report)) (a .at)) (a .charts) (sym (counted .before .nine-counts .ensures) ∙ counted .if1 .left),
       lt-leb (getD (now (a .report)) (a .at + 9) 0) (512 * a .charts) (omega arith),
     ) refl
-
-add-wide-2 : tie.Need-add-wide-2
-add-wide-2 c = search needs
-
-mul-wide-2 : tie.Need-mul-wide-2
-mul-wide-2 c = search needs
-
-shared-slice-read-wide-2 : tie.Need-shared-slice-read-wide-2
-shared-slice-read-wide-2 c = search needs
-
-wide-requires-2 : tie.Need-wide-requires-2
-wide-requires-2 c κs = search needs
 
 returns-3 : tie.Need-returns-3
 unfolding goodReportColumn
@@ -74,18 +44,6 @@ returns-3 c =
       le-leb (getD (now (a .report)) (a .at + 9) 0) (512 * a .charts) (omega arith),
       lt-leb (getD (now (a .report)) (a .at + 10) 0) (512 * a .charts) (omega arith),
     ) refl
-
-add-wide-3 : tie.Need-add-wide-3
-add-wide-3 c = search needs
-
-mul-wide-3 : tie.Need-mul-wide-3
-mul-wide-3 c = search needs
-
-shared-slice-read-wide-3 : tie.Need-shared-slice-read-wide-3
-shared-slice-read-wide-3 c = search needs
-
-wide-requires-3 : tie.Need-wide-requires-3
-wide-requires-3 c κs = search needs
 
 returns-4 : tie.Need-returns-4
 unfolding goodReportColumn
@@ -108,21 +66,21 @@ pub good-report-column-spec : {M : Type 1} → statement M
 good-report-column-spec =
     tie.close
     (tie.spec
-    mul-most
-    nine-counts-requires
+    (λ c. search needs)
+    (λ c κs. search needs)
     returns
-    add-wide
-    mul-wide
-    shared-slice-read-wide
-    wide-requires
+    (λ c. search needs)
+    (λ c. search needs)
+    (λ c. search needs)
+    (λ c κs. search needs)
     returns-2
-    add-wide-2
-    mul-wide-2
-    shared-slice-read-wide-2
-    wide-requires-2
+    (λ c. search needs)
+    (λ c. search needs)
+    (λ c. search needs)
+    (λ c κs. search needs)
     returns-3
-    add-wide-3
-    mul-wide-3
-    shared-slice-read-wide-3
-    wide-requires-3
+    (λ c. search needs)
+    (λ c. search needs)
+    (λ c. search needs)
+    (λ c κs. search needs)
     returns-4)
