@@ -3,18 +3,6 @@ use borrow.Author.Needs.{needs}
 use Rattle.c_types.proofs.answers.set_to_c.Statement.{statement}
 use Rattle.c_types.proofs.answers.set_to_c.Tie as tie
 
-enum-told : tie.Need-enum-told
-enum-told c = search needs
-
-bare-requires : tie.Need-bare-requires
-bare-requires c κs = search needs
-
-enum-known-answer : tie.Need-enum-known-answer
-enum-known-answer c = search needs
-
-refusal-to-c-requires : tie.Need-refusal-to-c-requires
-refusal-to-c-requires c κs = search needs
-
 returns : tie.Need-returns
 returns c = simp (c .bare .ensures, c .before .enum-told .given .1)
 
@@ -24,4 +12,4 @@ returns-2 c = simp (c .refusal-to-c .ensures, c .before .before .answer .given .
 pub set-to-c-spec : {M : Type 1} → statement M
 set-to-c-spec =
     tie.close
-    (tie.spec enum-told bare-requires enum-known-answer refusal-to-c-requires returns returns-2)
+    (tie.spec (λ c. search needs) (λ c κs. search needs) (λ c. search needs) (λ c κs. search needs) returns returns-2)

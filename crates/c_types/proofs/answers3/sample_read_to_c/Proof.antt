@@ -4,18 +4,6 @@ use borrow.Author.Needs.{needs}
 use Rattle.c_types.proofs.answers3.sample_read_to_c.Statement.{statement}
 use Rattle.c_types.proofs.answers3.sample_read_to_c.Tie as tie
 
-enum-known-read : tie.Need-enum-known-read
-enum-known-read c = search needs
-
-bare-requires : tie.Need-bare-requires
-bare-requires c κs = search needs
-
-enum-told : tie.Need-enum-told
-enum-told c = search needs
-
-bare-requires-2 : tie.Need-bare-requires-2
-bare-requires-2 c κs = search needs
-
 returns : tie.Need-returns
 returns c = simp (c .bare .ensures, c .before .before .read .given .1)
 
@@ -25,4 +13,11 @@ returns-2 c = simp (c .bare2 .ensures, c .before .enum-told .given .1)
 
 pub sample-read-to-c-spec : {M : Type 1} → statement M
 sample-read-to-c-spec =
-    tie.close (tie.spec enum-known-read bare-requires enum-told bare-requires-2 returns returns-2)
+    tie.close
+    (tie.spec
+    (λ c. search needs)
+    (λ c κs. search needs)
+    (λ c. search needs)
+    (λ c κs. search needs)
+    returns
+    returns-2)

@@ -3,12 +3,6 @@ use borrow.Author.Needs.{needs}
 use Rattle.c_types.proofs.lines.step2_to_c.Statement.{statement}
 use Rattle.c_types.proofs.lines.step2_to_c.Tie as tie
 
-enum-known-step : tie.Need-enum-known-step
-enum-known-step c = search needs
-
-enum-told : tie.Need-enum-told
-enum-told c = search needs
-
 returns : tie.Need-returns
 returns c = simp (c .before .step .given .1)
 
@@ -16,4 +10,4 @@ returns-2 : tie.Need-returns-2
 returns-2 c = simp (c .enum-told .given .1)
 
 pub step2-to-c-spec : {M : Type 1} → statement M
-step2-to-c-spec = tie.close (tie.spec enum-known-step enum-told returns returns-2)
+step2-to-c-spec = tie.close (tie.spec (λ c. search needs) (λ c. search needs) returns returns-2)

@@ -5,132 +5,6 @@ use borrow.Author.Needs.{needs}
 use Rattle.c_types.proofs.refusals.refusal_to_c.Statement.{statement}
 use Rattle.c_types.proofs.refusals.refusal_to_c.Tie as tie
 
-enum-known-refusal : tie.Need-enum-known-refusal
-enum-known-refusal c = search needs
-
-on-grid-requires : tie.Need-on-grid-requires
-on-grid-requires c κs = search needs
-
-enum-told : tie.Need-enum-told
-enum-told c = search needs
-
-bare-requires : tie.Need-bare-requires
-bare-requires c κs = search needs
-
-enum-told-2 : tie.Need-enum-told-2
-enum-told-2 c = search needs
-
-bare-requires-2 : tie.Need-bare-requires-2
-bare-requires-2 c κs = search needs
-
-enum-told-3 : tie.Need-enum-told-3
-enum-told-3 c = search needs
-
-bare-requires-3 : tie.Need-bare-requires-3
-bare-requires-3 c κs = search needs
-
-enum-known-refusal-2 : tie.Need-enum-known-refusal-2
-enum-known-refusal-2 c = search needs
-
-on-grid-requires-2 : tie.Need-on-grid-requires-2
-on-grid-requires-2 c κs = search needs
-
-enum-known-refusal-3 : tie.Need-enum-known-refusal-3
-enum-known-refusal-3 c = search needs
-
-on-grid-requires-3 : tie.Need-on-grid-requires-3
-on-grid-requires-3 c κs = search needs
-
-enum-told-4 : tie.Need-enum-told-4
-enum-told-4 c = search needs
-
-bare-requires-4 : tie.Need-bare-requires-4
-bare-requires-4 c κs = search needs
-
-enum-known-refusal-4 : tie.Need-enum-known-refusal-4
-enum-known-refusal-4 c = search needs
-
-in-list-requires : tie.Need-in-list-requires
-in-list-requires c κs = search needs
-
-enum-told-5 : tie.Need-enum-told-5
-enum-told-5 c = search needs
-
-bare-requires-5 : tie.Need-bare-requires-5
-bare-requires-5 c κs = search needs
-
-enum-told-6 : tie.Need-enum-told-6
-enum-told-6 c = search needs
-
-bare-requires-6 : tie.Need-bare-requires-6
-bare-requires-6 c κs = search needs
-
-enum-known-refusal-5 : tie.Need-enum-known-refusal-5
-enum-known-refusal-5 c = search needs
-
-at-place-requires : tie.Need-at-place-requires
-at-place-requires c κs = search needs
-
-enum-known-refusal-6 : tie.Need-enum-known-refusal-6
-enum-known-refusal-6 c = search needs
-
-in-room-requires : tie.Need-in-room-requires
-in-room-requires c κs = search needs
-
-enum-known-refusal-7 : tie.Need-enum-known-refusal-7
-enum-known-refusal-7 c = search needs
-
-at-place-requires-2 : tie.Need-at-place-requires-2
-at-place-requires-2 c κs = search needs
-
-enum-told-7 : tie.Need-enum-told-7
-enum-told-7 c = search needs
-
-bare-requires-7 : tie.Need-bare-requires-7
-bare-requires-7 c κs = search needs
-
-enum-told-8 : tie.Need-enum-told-8
-enum-told-8 c = search needs
-
-bare-requires-8 : tie.Need-bare-requires-8
-bare-requires-8 c κs = search needs
-
-enum-told-9 : tie.Need-enum-told-9
-enum-told-9 c = search needs
-
-bare-requires-9 : tie.Need-bare-requires-9
-bare-requires-9 c κs = search needs
-
-enum-told-10 : tie.Need-enum-told-10
-enum-told-10 c = search needs
-
-bare-requires-10 : tie.Need-bare-requires-10
-bare-requires-10 c κs = search needs
-
-enum-known-refusal-8 : tie.Need-enum-known-refusal-8
-enum-known-refusal-8 c = search needs
-
-at-place-requires-3 : tie.Need-at-place-requires-3
-at-place-requires-3 c κs = search needs
-
-enum-told-11 : tie.Need-enum-told-11
-enum-told-11 c = search needs
-
-bare-requires-11 : tie.Need-bare-requires-11
-bare-requires-11 c κs = search needs
-
-enum-told-12 : tie.Need-enum-told-12
-enum-told-12 c = search needs
-
-bare-requires-12 : tie.Need-bare-requires-12
-bare-requires-12 c κs = search needs
-
-enum-told-13 : tie.Need-enum-told-13
-enum-told-13 c = search needs
-
-bare-requires-13 : tie.Need-bare-requires-13
-bare-requires-13 c κs = search needs
-
 returns : tie.Need-returns
 returns c = simp (c .on-grid .ensures, c .before .before .refusal .given .1)
 
@@ -200,48 +74,48 @@ pub refusal-to-c-spec : {M : Type 1} → statement M
 refusal-to-c-spec =
     tie.close
     (tie.spec
-    enum-known-refusal
-    on-grid-requires
-    enum-told
-    bare-requires
-    enum-told-2
-    bare-requires-2
-    enum-told-3
-    bare-requires-3
-    enum-known-refusal-2
-    on-grid-requires-2
-    enum-known-refusal-3
-    on-grid-requires-3
-    enum-told-4
-    bare-requires-4
-    enum-known-refusal-4
-    in-list-requires
-    enum-told-5
-    bare-requires-5
-    enum-told-6
-    bare-requires-6
-    enum-known-refusal-5
-    at-place-requires
-    enum-known-refusal-6
-    in-room-requires
-    enum-known-refusal-7
-    at-place-requires-2
-    enum-told-7
-    bare-requires-7
-    enum-told-8
-    bare-requires-8
-    enum-told-9
-    bare-requires-9
-    enum-told-10
-    bare-requires-10
-    enum-known-refusal-8
-    at-place-requires-3
-    enum-told-11
-    bare-requires-11
-    enum-told-12
-    bare-requires-12
-    enum-told-13
-    bare-requires-13
+    (λ c. search needs)
+    (λ c κs. search needs)
+    (λ c. search needs)
+    (λ c κs. search needs)
+    (λ c. search needs)
+    (λ c κs. search needs)
+    (λ c. search needs)
+    (λ c κs. search needs)
+    (λ c. search needs)
+    (λ c κs. search needs)
+    (λ c. search needs)
+    (λ c κs. search needs)
+    (λ c. search needs)
+    (λ c κs. search needs)
+    (λ c. search needs)
+    (λ c κs. search needs)
+    (λ c. search needs)
+    (λ c κs. search needs)
+    (λ c. search needs)
+    (λ c κs. search needs)
+    (λ c. search needs)
+    (λ c κs. search needs)
+    (λ c. search needs)
+    (λ c κs. search needs)
+    (λ c. search needs)
+    (λ c κs. search needs)
+    (λ c. search needs)
+    (λ c κs. search needs)
+    (λ c. search needs)
+    (λ c κs. search needs)
+    (λ c. search needs)
+    (λ c κs. search needs)
+    (λ c. search needs)
+    (λ c κs. search needs)
+    (λ c. search needs)
+    (λ c κs. search needs)
+    (λ c. search needs)
+    (λ c κs. search needs)
+    (λ c. search needs)
+    (λ c κs. search needs)
+    (λ c. search needs)
+    (λ c κs. search needs)
     returns
     returns-2
     returns-3
