@@ -12,9 +12,6 @@ use Rattle.record_reader.proofs.Taken.{model-off, frame-off, rows-next}
 use Rattle.record_reader.proofs.check.after_extents.Statement.{statement}
 use Rattle.record_reader.proofs.check.after_extents.Tie as tie
 
-model-sound-requires : tie.Need-model-sound-requires
-model-sound-requires c κs = search needs
-
 model-field-at-requires : tie.Need-model-field-at-requires
 model-field-at-requires c κs =
     let a = c .before .before .before .args in
@@ -27,17 +24,11 @@ add-frame c =
     let w = whole-at modelTag modelLength (a .at) (now (a .bytes)) (both-l _ _ (sym (c .before .before .model-sound .ensures) ∙ c .before .if1 .taken)) in
     omega arith
 
-frame-sound-requires : tie.Need-frame-sound-requires
-frame-sound-requires c κs = search needs
-
 add-rows-and-end : tie.Need-add-rows-and-end
 add-rows-and-end c =
     let a = c .before .before .before .before .before .before .args in
     let w = whole-at frameTag frameLength (a .at + fieldSize modelLength) (now (a .bytes)) (both-l _ _ (sym (c .before .frame-sound .ensures) ∙ c .if2 .taken)) in
     omega arith
-
-rows-and-end-requires : tie.Need-rows-and-end-requires
-rows-and-end-requires c κs = search needs
 
 returns : tie.Need-returns
 returns c =
@@ -47,18 +38,12 @@ returns c =
     let read = c .before .before .before .model-field-at in
     c .rows-and-end .ensures ∙ sym (rows-next (a .width) (a .count) (a .at) (now (a .bytes)) (modelOf (read .result)) (read .ensures) model frame)
 
-record-broken-requires : tie.Need-record-broken-requires
-record-broken-requires c κs = search needs
-
 returns-2 : tie.Need-returns-2
 returns-2 c =
     let a = c .before .before .before .before .before .before .before .args in
     let model = sym (c .before .before .before .before .before .model-sound .ensures) ∙ c .before .before .before .before .if1 .taken in
     let frame = sym (c .before .before .frame-sound .ensures) ∙ c .before .if2 .left in
     c .record-broken .ensures ∙ sym (frame-off (a .width) (a .count) (a .at) (now (a .bytes)) model frame)
-
-record-broken-requires-2 : tie.Need-record-broken-requires-2
-record-broken-requires-2 c κs = search needs
 
 returns-3 : tie.Need-returns-3
 returns-3 c =
@@ -70,14 +55,14 @@ pub after-extents-spec : {M : Type 1} → statement M
 after-extents-spec =
     tie.close
     (tie.spec
-    model-sound-requires
+    (λ c κs. search needs)
     model-field-at-requires
     add-frame
-    frame-sound-requires
+    (λ c κs. search needs)
     add-rows-and-end
-    rows-and-end-requires
+    (λ c κs. search needs)
     returns
-    record-broken-requires
+    (λ c κs. search needs)
     returns-2
-    record-broken-requires-2
+    (λ c κs. search needs)
     returns-3)

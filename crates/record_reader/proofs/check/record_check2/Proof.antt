@@ -11,9 +11,6 @@ use Rattle.record_reader.proofs.Taken.{extents-off, extents-held}
 use Rattle.record_reader.proofs.check.record_check2.Statement.{statement}
 use Rattle.record_reader.proofs.check.record_check2.Tie as tie
 
-extents-sound2-requires : tie.Need-extents-sound2-requires
-extents-sound2-requires c κs = search needs
-
 extents-field-at2-requires : tie.Need-extents-field-at2-requires
 extents-field-at2-requires c κs =
     let w = whole extentsTag (extentsLength 2) (now (c .before .before .before .args .bytes)) (both-l _ _ (sym (c .before .extents-sound2 .ensures) ∙ c .if1 .taken)) in
@@ -31,9 +28,6 @@ returns c =
     let held = sym (c .before .before .before .extents-sound2 .ensures) ∙ c .before .before .if1 .taken in
     c .after-extents .ensures ∙ sym (extents-held 2 b _ _ (shape2 _ (c .before .extents-field-at2 .result) e) held)
 
-record-broken-requires : tie.Need-record-broken-requires
-record-broken-requires c κs = search needs
-
 returns-2 : tie.Need-returns-2
 returns-2 c =
     let off = sym (c .before .before .extents-sound2 .ensures) ∙ c .before .if1 .left in
@@ -43,9 +37,9 @@ pub record-check2-spec : {M : Type 1} → statement M
 record-check2-spec =
     tie.close
     (tie.spec
-    extents-sound2-requires
+    (λ c κs. search needs)
     extents-field-at2-requires
     after-extents-requires
     returns
-    record-broken-requires
+    (λ c κs. search needs)
     returns-2)

@@ -14,9 +14,6 @@ use Rattle.record_reader.proofs.Taken.{extents-off, extents-held}
 use Rattle.record_reader.proofs.check.record_check3.Statement.{statement}
 use Rattle.record_reader.proofs.check.record_check3.Tie as tie
 
-extents-sound3-requires : tie.Need-extents-sound3-requires
-extents-sound3-requires c κs = search needs
-
 extents-field-at3-requires : tie.Need-extents-field-at3-requires
 extents-field-at3-requires c κs =
     let w = whole extentsTag (extentsLength 3) (now (c .before .before .before .args .bytes)) (both-l _ _ (sym (c .before .extents-sound3 .ensures) ∙ c .if1 .taken)) in
@@ -39,9 +36,6 @@ returns c =
     let held = sym (c .before .before .before .before .extents-sound3 .ensures) ∙ c .before .before .before .if1 .taken in
     c .after-extents .ensures ∙ sym (extents-held 3 b _ _ (shape3 _ (c .before .before .extents-field-at3 .result) e) held)
 
-record-broken-requires : tie.Need-record-broken-requires
-record-broken-requires c κs = search needs
-
 returns-2 : tie.Need-returns-2
 returns-2 c =
     let off = sym (c .before .before .extents-sound3 .ensures) ∙ c .before .if1 .left in
@@ -51,10 +45,10 @@ pub record-check3-spec : {M : Type 1} → statement M
 record-check3-spec =
     tie.close
     (tie.spec
-    extents-sound3-requires
+    (λ c κs. search needs)
     extents-field-at3-requires
     mul-after-extents
     after-extents-requires
     returns
-    record-broken-requires
+    (λ c κs. search needs)
     returns-2)

@@ -11,21 +11,6 @@ use Rattle.record_reader.proofs.Taken.{rows-off, end-next}
 use Rattle.record_reader.proofs.check.rows_and_end.Statement.{statement}
 use Rattle.record_reader.proofs.check.rows_and_end.Tie as tie
 
-rows-check-requires : tie.Need-rows-check-requires
-rows-check-requires c κs = search needs
-
-enum-known-r : tie.Need-enum-known-r
-enum-known-r c = search needs
-
-enum-told : tie.Need-enum-told
-enum-told c = search needs
-
-mul-end-check : tie.Need-mul-end-check
-mul-end-check c = search needs
-
-add-end-check : tie.Need-add-end-check
-add-end-check c = search needs
-
 mul-end-check-2 : tie.Need-mul-end-check-2
 mul-end-check-2 c =
     let a = c .before .before .before .before .args in
@@ -39,9 +24,6 @@ add-end-check-2 c =
     let passed = sym (c .before .before .rows-check .ensures) ∙ ap checkOf (c .enum-told .given .1) in
     let room = rows-room (modelOf (a .model)) (a .width) (a .count) (a .at) (drop (a .at) (now (a .bytes))) passed in
     omega (arith, length-drop (a .at) (now (a .bytes)))
-
-end-check-requires : tie.Need-end-check-requires
-end-check-requires c κs = search needs
 
 returns : tie.Need-returns
 returns c =
@@ -59,13 +41,13 @@ pub rows-and-end-spec : {M : Type 1} → statement M
 rows-and-end-spec =
     tie.close
     (tie.spec
-    rows-check-requires
-    enum-known-r
-    enum-told
-    mul-end-check
-    add-end-check
+    (λ c κs. search needs)
+    (λ c. search needs)
+    (λ c. search needs)
+    (λ c. search needs)
+    (λ c. search needs)
     mul-end-check-2
     add-end-check-2
-    end-check-requires
+    (λ c κs. search needs)
     returns
     returns-2)

@@ -9,9 +9,6 @@ use Rattle.record_reader.proofs.Sound.{end-absent, end-followed, end-so
 use Rattle.record_reader.proofs.parts.end_check.Statement.{statement}
 use Rattle.record_reader.proofs.parts.end_check.Tie as tie
 
-field-here-requires : tie.Need-field-here-requires
-field-here-requires c κs = search needs
-
 sub-if2 : tie.Need-sub-if2
 sub-if2 c =
     let a = c .before .before .before .args in
@@ -29,16 +26,10 @@ add-record-broken c =
     let w = whole-at endTag endLength (a .at) (now (a .bytes)) (sym (c .before .before .field-here .ensures) ∙ c .before .if1 .taken) in
     omega arith
 
-record-broken-requires : tie.Need-record-broken-requires
-record-broken-requires c κs = search needs
-
 returns-2 : tie.Need-returns-2
 returns-2 c =
     let a = c .before .before .before .before .before .args in
     c .record-broken .ensures ∙ sym (end-followed (a .at) (now (a .bytes)) (sym (c .before .before .before .field-here .ensures) ∙ c .before .before .if1 .taken) (c .before .if2 .left))
-
-record-broken-requires-2 : tie.Need-record-broken-requires-2
-record-broken-requires-2 c κs = search needs
 
 returns-3 : tie.Need-returns-3
 returns-3 c =
@@ -49,11 +40,11 @@ pub end-check-spec : {M : Type 1} → statement M
 end-check-spec =
     tie.close
     (tie.spec
-    field-here-requires
+    (λ c κs. search needs)
     sub-if2
     returns
     add-record-broken
-    record-broken-requires
+    (λ c κs. search needs)
     returns-2
-    record-broken-requires-2
+    (λ c κs. search needs)
     returns-3)

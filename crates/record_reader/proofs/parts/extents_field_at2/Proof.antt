@@ -9,24 +9,6 @@ use Rattle.rules.specs.MapRecord.{extentsIn}
 use Rattle.record_reader.proofs.parts.extents_field_at2.Statement.{statement}
 use Rattle.record_reader.proofs.parts.extents_field_at2.Tie as tie
 
-add-x : tie.Need-add-x
-add-x c = search needs
-
-add-y : tie.Need-add-y
-add-y c = search needs
-
-u16-at-requires : tie.Need-u16-at-requires
-u16-at-requires c κs = search needs
-
-cast-t6 : tie.Need-cast-t6
-cast-t6 c = search needs
-
-u16-at-requires-2 : tie.Need-u16-at-requires-2
-u16-at-requires-2 c κs = search needs
-
-cast-t8 : tie.Need-cast-t8
-cast-t8 c = search needs
-
 returns : tie.Need-returns
 unfolding extentsIn
 returns c =
@@ -36,4 +18,12 @@ returns c =
 
 pub extents-field-at2-spec : {M : Type 1} → statement M
 extents-field-at2-spec =
-    tie.close (tie.spec add-x add-y u16-at-requires cast-t6 u16-at-requires-2 cast-t8 returns)
+    tie.close
+    (tie.spec
+    (λ c. search needs)
+    (λ c. search needs)
+    (λ c κs. search needs)
+    (λ c. search needs)
+    (λ c κs. search needs)
+    (λ c. search needs)
+    returns)

@@ -7,16 +7,10 @@ use Rattle.rules.specs.Fields.{fromLittleEndian, wordSize, headSize}
 use Rattle.record_reader.proofs.parts.frame_field_at.Statement.{statement}
 use Rattle.record_reader.proofs.parts.frame_field_at.Tie as tie
 
-add-u32-at : tie.Need-add-u32-at
-add-u32-at c = search needs
-
-u32-at-requires : tie.Need-u32-at-requires
-u32-at-requires c κs = search needs
-
 returns : tie.Need-returns
 returns c =
     let a = c .before .before .args in
     c .u32-at .ensures ∙ ap (fromLittleEndian wordSize) (sym (drop-drop headSize (a .at) (now (a .bytes))))
 
 pub frame-field-at-spec : {M : Type 1} → statement M
-frame-field-at-spec = tie.close (tie.spec add-u32-at u32-at-requires returns)
+frame-field-at-spec = tie.close (tie.spec (λ c. search needs) (λ c κs. search needs) returns)

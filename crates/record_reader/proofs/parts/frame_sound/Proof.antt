@@ -9,17 +9,11 @@ use Rattle.fields.proofs.Bytes.{whole-at}
 use Rattle.record_reader.proofs.parts.frame_sound.Statement.{statement}
 use Rattle.record_reader.proofs.parts.frame_sound.Tie as tie
 
-field-here-requires : tie.Need-field-here-requires
-field-here-requires c κs = search needs
-
 frame-field-at-requires : tie.Need-frame-field-at-requires
 frame-field-at-requires c κs =
     let a = c .before .before .before .args in
     let w = whole-at frameTag frameLength (a .at) (now (a .bytes)) (sym (c .before .field-here .ensures) ∙ c .if1 .taken) in
     omega arith
-
-is-open-requires : tie.Need-is-open-requires
-is-open-requires c κs = search needs
 
 returns : tie.Need-returns
 returns c =
@@ -32,4 +26,4 @@ returns-2 c = rw (sym (c .before .field-here .ensures) ∙ c .if1 .left) refl
 pub frame-sound-spec : {M : Type 1} → statement M
 frame-sound-spec =
     tie.close
-    (tie.spec field-here-requires frame-field-at-requires is-open-requires returns returns-2)
+    (tie.spec (λ c κs. search needs) frame-field-at-requires (λ c κs. search needs) returns returns-2)

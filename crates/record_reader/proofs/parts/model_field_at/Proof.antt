@@ -8,24 +8,6 @@ use Rattle.rules.specs.Fields.{floatSize, floatsIn, headSize}
 use Rattle.record_reader.proofs.parts.model_field_at.Statement.{statement}
 use Rattle.record_reader.proofs.parts.model_field_at.Tie as tie
 
-add-occupied : tie.Need-add-occupied
-add-occupied c = search needs
-
-add-free : tie.Need-add-free
-add-free c = search needs
-
-add-ceiling : tie.Need-add-ceiling
-add-ceiling c = search needs
-
-f64-at-requires : tie.Need-f64-at-requires
-f64-at-requires c κs = search needs
-
-f64-at-requires-2 : tie.Need-f64-at-requires-2
-f64-at-requires-2 c κs = search needs
-
-f64-at-requires-3 : tie.Need-f64-at-requires-3
-f64-at-requires-3 c κs = search needs
-
 returns : tie.Need-returns
 unfolding floatsIn
 returns c =
@@ -44,10 +26,10 @@ pub model-field-at-spec : {M : Type 1} → statement M
 model-field-at-spec =
     tie.close
     (tie.spec
-    add-occupied
-    add-free
-    add-ceiling
-    f64-at-requires
-    f64-at-requires-2
-    f64-at-requires-3
+    (λ c. search needs)
+    (λ c. search needs)
+    (λ c. search needs)
+    (λ c κs. search needs)
+    (λ c κs. search needs)
+    (λ c κs. search needs)
     returns)

@@ -9,17 +9,11 @@ use Rattle.fields.proofs.Bytes.{whole-at}
 use Rattle.record_reader.proofs.parts.model_sound.Statement.{statement}
 use Rattle.record_reader.proofs.parts.model_sound.Tie as tie
 
-field-here-requires : tie.Need-field-here-requires
-field-here-requires c κs = search needs
-
 model-field-at-requires : tie.Need-model-field-at-requires
 model-field-at-requires c κs =
     let a = c .before .before .before .args in
     let w = whole-at modelTag modelLength (a .at) (now (a .bytes)) (sym (c .before .field-here .ensures) ∙ c .if1 .taken) in
     omega arith
-
-is-bounded-requires : tie.Need-is-bounded-requires
-is-bounded-requires c κs = search needs
 
 returns : tie.Need-returns
 returns c =
@@ -32,4 +26,4 @@ returns-2 c = rw (sym (c .before .field-here .ensures) ∙ c .if1 .left) refl
 pub model-sound-spec : {M : Type 1} → statement M
 model-sound-spec =
     tie.close
-    (tie.spec field-here-requires model-field-at-requires is-bounded-requires returns returns-2)
+    (tie.spec (λ c κs. search needs) model-field-at-requires (λ c κs. search needs) returns returns-2)

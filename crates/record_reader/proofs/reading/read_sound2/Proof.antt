@@ -35,9 +35,6 @@ returns c =
     let shape = shape2 _ e (c .before .extents-field-at2 .ensures) in
     odds-wrong 2 b s (e .x) (e .y) shape [] (now (a .odds)) (now (a .stamps)) (no-cuts 2 b) (c .if1 .taken)
 
-mul-if2 : tie.Need-mul-if2
-mul-if2 c = search needs
-
 returns-2 : tie.Need-returns-2
 returns-2 c =
     let a = c .before .before .before .before .before .before .args in
@@ -58,9 +55,6 @@ read-rows-requires c κs =
     let one = c .before .before .if1 .left in
     (rows-fit 2 b s (e .x) (e .y) shape, omega arith)
 
-clear-stamps-requires : tie.Need-clear-stamps-requires
-clear-stamps-requires c κs = search needs
-
 model-field-at-requires : tie.Need-model-field-at-requires
 model-field-at-requires c κs =
     let b = now (c .before .before .before .before .before .before .before .before .before .before .before .before .before .before .args .bytes) in
@@ -72,12 +66,6 @@ frame-field-at-requires c κs =
     let b = now (c .before .before .before .before .before .before .before .before .before .before .before .before .before .before .before .args .bytes) in
     let fits = head-fits 2 b (sound 2 b (c .before .before .before .before .before .before .before .before .before .before .before .before .before .before .before .pre)) in
     omega arith
-
-same-length : tie.Need-same-length
-same-length c = search needs
-
-same-length-2 : tie.Need-same-length-2
-same-length-2 c = search needs
 
 returns-3 : tie.Need-returns-3
 returns-3 c =
@@ -100,12 +88,12 @@ read-sound2-spec =
     extents-field-at2-requires
     mul-if1
     returns
-    mul-if2
+    (λ c. search needs)
     returns-2
     read-rows-requires
-    clear-stamps-requires
+    (λ c κs. search needs)
     model-field-at-requires
     frame-field-at-requires
-    same-length
-    same-length-2
+    (λ c. search needs)
+    (λ c. search needs)
     returns-3)

@@ -56,12 +56,6 @@ model-field-at-requires c κs =
     let fits = head-fits 3 b (sound 3 b (c .before .before .before .before .pre)) in
     omega arith
 
-alike-requires : tie.Need-alike-requires
-alike-requires c κs = search needs
-
-cuts-in-bounds-requires : tie.Need-cuts-in-bounds-requires
-cuts-in-bounds-requires c κs = search needs
-
 returns : tie.Need-returns
 returns c =
     let a = c .before .before .before .before .before .before .before .before .args in
@@ -97,9 +91,6 @@ returns-2 c =
     let fit = fit-found 3 b (cutsOf (a .cuts)) true _ _ (c .before .before .before .before .before .before .extents-field-at3 .ensures) (model-read e (a .cuts) b _ _ (c .before .before .before .before .before .before .extents-field-at3 .ensures) (c .before .before .before .before .alike .ensures) (c .before .before .before .before .before .model-field-at .ensures)) (sym (was-true _ (c .before .before .if1 .left)) ∙ c .before .before .before .cuts-in-bounds .ensures) in
     odds-wrong 3 b s (e .x) (e .y * e .z) shape (cutsOf (a .cuts)) (now (a .odds)) (now (a .stamps)) fit (c .if2 .taken)
 
-mul-if3 : tie.Need-mul-if3
-mul-if3 c = search needs
-
 returns-3 : tie.Need-returns-3
 returns-3 c =
     let a = c .before .before .before .before .before .before .before .before .before .before .before .args in
@@ -121,20 +112,11 @@ read-rows-requires c κs =
     let one = c .before .before .if2 .left in
     (rows-fit 3 b s (e .x) (e .y * e .z) shape, omega arith)
 
-clear-stamps-requires : tie.Need-clear-stamps-requires
-clear-stamps-requires c κs = search needs
-
 frame-field-at-requires : tie.Need-frame-field-at-requires
 frame-field-at-requires c κs =
     let b = now (c .before .before .before .before .before .before .before .before .before .before .before .before .before .before .before .before .before .before .before .args .bytes) in
     let fits = head-fits 3 b (sound 3 b (c .before .before .before .before .before .before .before .before .before .before .before .before .before .before .before .before .before .before .before .pre)) in
     omega arith
-
-same-length : tie.Need-same-length
-same-length c = search needs
-
-same-length-2 : tie.Need-same-length-2
-same-length-2 c = search needs
 
 returns-4 : tie.Need-returns-4
 returns-4 c =
@@ -157,17 +139,17 @@ read-sound3-spec =
     (tie.spec
     extents-field-at3-requires
     model-field-at-requires
-    alike-requires
-    cuts-in-bounds-requires
+    (λ c κs. search needs)
+    (λ c κs. search needs)
     returns
     mul-count
     mul-if2
     returns-2
-    mul-if3
+    (λ c. search needs)
     returns-3
     read-rows-requires
-    clear-stamps-requires
+    (λ c κs. search needs)
     frame-field-at-requires
-    same-length
-    same-length-2
+    (λ c. search needs)
+    (λ c. search needs)
     returns-4)
