@@ -12,29 +12,11 @@ use Rattle.record_writer.specs.Writing.{writableRows}
 use Rattle.record_writer.proofs.arranging.size_if_writable.Statement.{statement}
 use Rattle.record_writer.proofs.arranging.size_if_writable.Tie as tie
 
-rows-writable-requires : tie.Need-rows-writable-requires
-rows-writable-requires c κs = search needs
-
-enum-known-r : tie.Need-enum-known-r
-enum-known-r c = search needs
-
-enum-told : tie.Need-enum-told
-enum-told c = search needs
-
 mul-size : tie.Need-mul-size
 mul-size c = let short = c .before .before .before .before .pre .1 .1 in omega arith
 
 add-size : tie.Need-add-size
 add-size c = let short = c .before .before .before .before .pre .1 .1 in omega arith
-
-mul-size-2 : tie.Need-mul-size-2
-mul-size-2 c = search needs
-
-add-size-2 : tie.Need-add-size-2
-add-size-2 c = search needs
-
-add-size-3 : tie.Need-add-size-3
-add-size-3 c = search needs
 
 returns : tie.Need-returns
 unfolding writableRows
@@ -64,14 +46,14 @@ pub size-if-writable-spec : {M : Type 1} → statement M
 size-if-writable-spec =
     tie.close
     (tie.spec
-    rows-writable-requires
-    enum-known-r
-    enum-told
+    (λ c κs. search needs)
+    (λ c. search needs)
+    (λ c. search needs)
     mul-size
     add-size
-    mul-size-2
-    add-size-2
-    add-size-3
+    (λ c. search needs)
+    (λ c. search needs)
+    (λ c. search needs)
     returns
     returns-2
     returns-3)

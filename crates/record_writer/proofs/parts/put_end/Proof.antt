@@ -7,16 +7,10 @@ use Rattle.record_writer.proofs.Fields.{end-is}
 use Rattle.record_writer.proofs.parts.put_end.Statement.{statement}
 use Rattle.record_writer.proofs.parts.put_end.Tie as tie
 
-put-field-requires : tie.Need-put-field-requires
-put-field-requires c κs = search needs
-
-same-length : tie.Need-same-length
-same-length c = search needs
-
 returns : tie.Need-returns
 returns c =
     let a = c .before .before .before .before .before .args in
     c .before .before .put-field .ensures ∙ ap (sets (now (a .out)) (a .at)) (sym end-is)
 
 pub put-end-spec : {M : Type 1} → statement M
-put-end-spec = tie.close (tie.spec put-field-requires same-length returns)
+put-end-spec = tie.close (tie.spec (λ c κs. search needs) (λ c. search needs) returns)

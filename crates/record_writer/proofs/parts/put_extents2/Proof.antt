@@ -5,30 +5,6 @@ use Rattle.record_writer.proofs.Fields.{extents2-written}
 use Rattle.record_writer.proofs.parts.put_extents2.Statement.{statement}
 use Rattle.record_writer.proofs.parts.put_extents2.Tie as tie
 
-add-x : tie.Need-add-x
-add-x c = search needs
-
-add-y : tie.Need-add-y
-add-y c = search needs
-
-put-field-requires : tie.Need-put-field-requires
-put-field-requires c κs = search needs
-
-cast-put-u16 : tie.Need-cast-put-u16
-cast-put-u16 c = search needs
-
-put-u16-requires : tie.Need-put-u16-requires
-put-u16-requires c κs = search needs
-
-cast-put-u16-2 : tie.Need-cast-put-u16-2
-cast-put-u16-2 c = search needs
-
-put-u16-requires-2 : tie.Need-put-u16-requires-2
-put-u16-requires-2 c κs = search needs
-
-same-length : tie.Need-same-length
-same-length c = search needs
-
 returns : tie.Need-returns
 returns c =
     let a = c .before .before .before .before .before .before .before .before .before .before .before .before .before .before .before .args in
@@ -39,12 +15,12 @@ pub put-extents2-spec : {M : Type 1} → statement M
 put-extents2-spec =
     tie.close
     (tie.spec
-    add-x
-    add-y
-    put-field-requires
-    cast-put-u16
-    put-u16-requires
-    cast-put-u16-2
-    put-u16-requires-2
-    same-length
+    (λ c. search needs)
+    (λ c. search needs)
+    (λ c κs. search needs)
+    (λ c. search needs)
+    (λ c κs. search needs)
+    (λ c. search needs)
+    (λ c κs. search needs)
+    (λ c. search needs)
     returns)

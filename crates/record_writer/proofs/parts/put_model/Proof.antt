@@ -6,30 +6,6 @@ use Rattle.record_writer.proofs.Fields.{model-written}
 use Rattle.record_writer.proofs.parts.put_model.Statement.{statement}
 use Rattle.record_writer.proofs.parts.put_model.Tie as tie
 
-add-occupied : tie.Need-add-occupied
-add-occupied c = search needs
-
-add-free : tie.Need-add-free
-add-free c = search needs
-
-add-ceiling : tie.Need-add-ceiling
-add-ceiling c = search needs
-
-put-field-requires : tie.Need-put-field-requires
-put-field-requires c κs = search needs
-
-put-f64-requires : tie.Need-put-f64-requires
-put-f64-requires c κs = search needs
-
-put-f64-requires-2 : tie.Need-put-f64-requires-2
-put-f64-requires-2 c κs = search needs
-
-put-f64-requires-3 : tie.Need-put-f64-requires-3
-put-f64-requires-3 c κs = search needs
-
-same-length : tie.Need-same-length
-same-length c = search needs
-
 returns : tie.Need-returns
 returns c =
     let a = c .before .before .before .before .before .before .before .before .before .before .before .before .before .before .before .before .before .args in
@@ -42,12 +18,12 @@ pub put-model-spec : {M : Type 1} → statement M
 put-model-spec =
     tie.close
     (tie.spec
-    add-occupied
-    add-free
-    add-ceiling
-    put-field-requires
-    put-f64-requires
-    put-f64-requires-2
-    put-f64-requires-3
-    same-length
+    (λ c. search needs)
+    (λ c. search needs)
+    (λ c. search needs)
+    (λ c κs. search needs)
+    (λ c κs. search needs)
+    (λ c κs. search needs)
+    (λ c κs. search needs)
+    (λ c. search needs)
     returns)

@@ -25,12 +25,6 @@ size-if-writable-requires c κs =
     let few = small (extents2 e) (e .x) (e .y) shape (p .extents) (omega arith) in
     (all-there (extents2 e) (e .x) (e .y) (now (a .odds)) shape (p .odds-count tt), (omega arith, p .extents .0 .1))
 
-enum-known-r : tie.Need-enum-known-r
-enum-known-r c = search needs
-
-enum-known-size : tie.Need-enum-known-size
-enum-known-size c = search needs
-
 put-extents2-requires : tie.Need-put-extents2-requires
 put-extents2-requires c κs =
     let a = c .before .before .before .before .before .before .before .before .args in
@@ -59,9 +53,6 @@ returns c =
     let why = sym (c .before .before .before .size-if-writable .ensures) ∙ ap countAnswer (c .before .r .given .1) in
     not-written (head2 (a .map)) (modelOf (a .map .model)) refl (alone _) (now (a .odds)) (now (a .out)) (e .x) (e .y) (shape2 (extents2 e) e refl) _ why
 
-same-length : tie.Need-same-length
-same-length c = search needs
-
 returns-2 : tie.Need-returns-2
 returns-2 c =
     let a = c .before .before .before .before .before .before .before .before .before .before .before .before .before .before .before .args in
@@ -79,10 +70,10 @@ write-passed2-spec =
     tie.close
     (tie.spec
     size-if-writable-requires
-    enum-known-r
-    enum-known-size
+    (λ c. search needs)
+    (λ c. search needs)
     put-extents2-requires
     put-rest-requires
     returns
-    same-length
+    (λ c. search needs)
     returns-2)

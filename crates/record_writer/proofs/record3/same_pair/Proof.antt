@@ -7,18 +7,6 @@ use Rattle.rules.specs.MapRecord.{sameBits, samePair}
 use Rattle.record_writer.proofs.record3.same_pair.Statement.{statement}
 use Rattle.record_writer.proofs.record3.same_pair.Tie as tie
 
-bits-of-requires : tie.Need-bits-of-requires
-bits-of-requires c κs = search needs
-
-bits-of-requires-2 : tie.Need-bits-of-requires-2
-bits-of-requires-2 c κs = search needs
-
-bits-of-requires-3 : tie.Need-bits-of-requires-3
-bits-of-requires-3 c κs = search needs
-
-bits-of-requires-4 : tie.Need-bits-of-requires-4
-bits-of-requires-4 c κs = search needs
-
 returns : tie.Need-returns
 unfolding sameBits samePair
 returns c =
@@ -35,9 +23,9 @@ pub same-pair-spec : {M : Type 1} → statement M
 same-pair-spec =
     tie.close
     (tie.spec
-    bits-of-requires
-    bits-of-requires-2
-    bits-of-requires-3
-    bits-of-requires-4
+    (λ c κs. search needs)
+    (λ c κs. search needs)
+    (λ c κs. search needs)
+    (λ c κs. search needs)
     returns
     returns-2)

@@ -18,9 +18,6 @@ use Rattle.record_writer.proofs.Fields.{given-room, not-written, writte
 use Rattle.record_writer.proofs.record3.write_equal3.Statement.{statement}
 use Rattle.record_writer.proofs.record3.write_equal3.Tie as tie
 
-lowest-requires : tie.Need-lowest-requires
-lowest-requires c κs = search needs
-
 mul-count : tie.Need-mul-count
 mul-count c =
     let a = c .before .before .before .before .before .before .args in
@@ -36,12 +33,6 @@ size-if-writable-requires c κs =
     let least = p .extents .0 .0 in
     let few = small (extents3 e) (e .x) (e .y * e .z) shape (p .extents) (omega arith) in
     (all-there (extents3 e) (e .x) (e .y * e .z) (now (a .odds)) shape (p .odds-count tt), (omega arith, p .extents .0 .1))
-
-enum-known-r : tie.Need-enum-known-r
-enum-known-r c = search needs
-
-enum-known-size : tie.Need-enum-known-size
-enum-known-size c = search needs
 
 put-extents3-requires : tie.Need-put-extents3-requires
 put-extents3-requires c κs =
@@ -71,9 +62,6 @@ returns c =
     let why = sym (c .before .before .before .size-if-writable .ensures) ∙ ap countAnswer (c .before .r .given .1) in
     not-written (head3 (a .map)) (modelOf (c .before .before .before .before .before .lowest .result)) (c .before .before .before .before .before .lowest .ensures) (c .before .before .before .before .before .before .before .before .before .before .pre .1) (now (a .odds)) (now (a .out)) (e .x) (e .y * e .z) (shape3 (extents3 e) e refl) _ why
 
-same-length : tie.Need-same-length
-same-length c = search needs
-
 returns-2 : tie.Need-returns-2
 returns-2 c =
     let a = c .before .before .before .before .before .before .before .before .before .before .before .before .before .before .before .before .before .before .args in
@@ -90,13 +78,13 @@ pub write-equal3-spec : {M : Type 1} → statement M
 write-equal3-spec =
     tie.close
     (tie.spec
-    lowest-requires
+    (λ c κs. search needs)
     mul-count
     size-if-writable-requires
-    enum-known-r
-    enum-known-size
+    (λ c. search needs)
+    (λ c. search needs)
     put-extents3-requires
     put-rest-requires
     returns
-    same-length
+    (λ c. search needs)
     returns-2)

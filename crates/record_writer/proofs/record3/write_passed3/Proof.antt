@@ -23,19 +23,10 @@ both-equal e b = go (samePair (pairOf (b .low)) (pairOf (b .middle))) (samePair 
     go true false = refl
     go false y = refl
 
-equal-pairs-requires : tie.Need-equal-pairs-requires
-equal-pairs-requires c κs = search needs
-
 write-equal3-requires : tie.Need-write-equal3-requires
 write-equal3-requires c κs =
     let a = c .before .before .before .before .before .args in
     (c .before .before .before .before .before .pre, sym (both-equal (a .map .extents) (a .map .bands)) ∙ sym (c .before .before .equal-pairs .ensures) ∙ c .before .if1 .taken)
-
-same-length : tie.Need-same-length
-same-length c = search needs
-
-returns : tie.Need-returns
-returns c = search needs
 
 returns-2 : tie.Need-returns-2
 returns-2 c =
@@ -47,8 +38,8 @@ pub write-passed3-spec : {M : Type 1} → statement M
 write-passed3-spec =
     tie.close
     (tie.spec
-    equal-pairs-requires
+    (λ c κs. search needs)
     write-equal3-requires
-    same-length
-    returns
+    (λ c. search needs)
+    (λ c. search needs)
     returns-2)
