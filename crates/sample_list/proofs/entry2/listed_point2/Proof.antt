@@ -11,21 +11,6 @@ use denote.Ref.{now}
 use Rattle.sample_list.proofs.entry2.listed_point2.Statement.{statement}
 use Rattle.sample_list.proofs.entry2.listed_point2.Tie as tie
 
-mul-t3 : tie.Need-mul-t3
-mul-t3 c = search needs
-
-shared-slice-read-t5 : tie.Need-shared-slice-read-t5
-shared-slice-read-t5 c = search needs
-
-add-t6 : tie.Need-add-t6
-add-t6 c = search needs
-
-mul-t7 : tie.Need-mul-t7
-mul-t7 c = search needs
-
-shared-slice-read-t9 : tie.Need-shared-slice-read-t9
-shared-slice-read-t9 c = search needs
-
 returns : tie.Need-returns
 returns c =
     let xs = now (c .before .before .args .points) in
@@ -36,4 +21,11 @@ returns c =
 
 pub listed-point2-spec : {M : Type 1} → statement M
 listed-point2-spec =
-    tie.close (tie.spec mul-t3 shared-slice-read-t5 add-t6 mul-t7 shared-slice-read-t9 returns)
+    tie.close
+    (tie.spec
+    (λ c. search needs)
+    (λ c. search needs)
+    (λ c. search needs)
+    (λ c. search needs)
+    (λ c. search needs)
+    returns)

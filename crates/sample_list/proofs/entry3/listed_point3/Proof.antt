@@ -11,30 +11,6 @@ use denote.Ref.{now}
 use Rattle.sample_list.proofs.entry3.listed_point3.Statement.{statement}
 use Rattle.sample_list.proofs.entry3.listed_point3.Tie as tie
 
-mul-t3 : tie.Need-mul-t3
-mul-t3 c = search needs
-
-shared-slice-read-t5 : tie.Need-shared-slice-read-t5
-shared-slice-read-t5 c = search needs
-
-add-t6 : tie.Need-add-t6
-add-t6 c = search needs
-
-mul-t7 : tie.Need-mul-t7
-mul-t7 c = search needs
-
-shared-slice-read-t9 : tie.Need-shared-slice-read-t9
-shared-slice-read-t9 c = search needs
-
-add-t10 : tie.Need-add-t10
-add-t10 c = search needs
-
-mul-t11 : tie.Need-mul-t11
-mul-t11 c = search needs
-
-shared-slice-read-t13 : tie.Need-shared-slice-read-t13
-shared-slice-read-t13 c = search needs
-
 returns : tie.Need-returns
 returns c =
     let xs = now (c .before .before .before .args .points) in
@@ -48,12 +24,12 @@ pub listed-point3-spec : {M : Type 1} → statement M
 listed-point3-spec =
     tie.close
     (tie.spec
-    mul-t3
-    shared-slice-read-t5
-    add-t6
-    mul-t7
-    shared-slice-read-t9
-    add-t10
-    mul-t11
-    shared-slice-read-t13
+    (λ c. search needs)
+    (λ c. search needs)
+    (λ c. search needs)
+    (λ c. search needs)
+    (λ c. search needs)
+    (λ c. search needs)
+    (λ c. search needs)
+    (λ c. search needs)
     returns)

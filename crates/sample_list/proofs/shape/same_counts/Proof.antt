@@ -6,15 +6,6 @@ use Rattle.rules.specs.ManySamples.{sameCounts}
 use Rattle.sample_list.proofs.shape.same_counts.Statement.{statement}
 use Rattle.sample_list.proofs.shape.same_counts.Tie as tie
 
-so-many-each-requires : tie.Need-so-many-each-requires
-so-many-each-requires c κs = search needs
-
-add-so-many-each : tie.Need-add-so-many-each
-add-so-many-each c = search needs
-
-so-many-each-requires-2 : tie.Need-so-many-each-requires-2
-so-many-each-requires-2 c κs = search needs
-
 returns : tie.Need-returns
 unfolding sameCounts
 returns c = rw (sym (c .before .before .so-many-each .ensures) ∙ c .before .if1 .taken) (rw add-one at (c .so-many-each2 .ensures))
@@ -24,4 +15,11 @@ unfolding sameCounts
 returns-2 c = rw (sym (c .before .so-many-each .ensures) ∙ c .if1 .left) refl
 
 pub same-counts-spec : {M : Type 1} → statement M
-same-counts-spec = tie.close (tie.spec so-many-each-requires add-so-many-each so-many-each-requires-2 returns returns-2)
+same-counts-spec =
+    tie.close
+    (tie.spec
+    (λ c κs. search needs)
+    (λ c. search needs)
+    (λ c κs. search needs)
+    returns
+    returns-2)
