@@ -39,12 +39,6 @@ nan-check-requires c κs =
     let e = start .args .extents in
     omega (arith, start .pre .1 .1, cells-by-layer (e .x) (e .y) (e .z))
 
-enum-known-r : tie.Need-enum-known-r
-enum-known-r c = search needs
-
-enum-told : tie.Need-enum-told
-enum-told c = search needs
-
 fill-requires : tie.Need-fill-requires
 fill-requires c κs =
     let start = c .before .before .before .before .before .before .before .before in
@@ -60,9 +54,6 @@ returns-2 c =
     let e = a .extents in
     rw (columns-is (e .x) (e .y) (e .z), layers-is (e .x) (e .y) (e .z))
     (rw (le-leb (5 * (e .x * e .y)) (length (now (a .chart))) (passed .if1 .left)) (simp (sym (c .before .before .before .nan-check .ensures) ∙ ap checkOf (c .before .r .given .1))))
-
-same-length : tie.Need-same-length
-same-length c = search needs
 
 returns-3 : tie.Need-returns-3
 unfolding charted chartRefusal
@@ -86,9 +77,9 @@ chart-of-spec =
     mul-needed
     returns
     nan-check-requires
-    enum-known-r
-    enum-told
+    (λ c. search needs)
+    (λ c. search needs)
     fill-requires
     returns-2
-    same-length
+    (λ c. search needs)
     returns-3)

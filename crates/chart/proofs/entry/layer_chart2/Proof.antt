@@ -6,15 +6,6 @@ use Rattle.checks.specs.Checking.{checkOf}
 use Rattle.chart.proofs.entry.layer_chart2.Statement.{statement}
 use Rattle.chart.proofs.entry.layer_chart2.Tie as tie
 
-check-requires : tie.Need-check-requires
-check-requires c κs = search needs
-
-enum-known-r : tie.Need-enum-known-r
-enum-known-r c = search needs
-
-enum-told : tie.Need-enum-told
-enum-told c = search needs
-
 returns : tie.Need-returns
 unfolding noCutsEntry
 returns c = simp (sym (c .before .before .before .check .ensures) ∙ ap checkOf (c .before .r .given .1))
@@ -24,4 +15,11 @@ unfolding noCutsEntry
 returns-2 c = simp (sym (c .before .before .check .ensures) ∙ ap checkOf (c .enum-told .given .1))
 
 pub layer-chart2-spec : {M : Type 1} → statement M
-layer-chart2-spec = tie.close (tie.spec check-requires enum-known-r enum-told returns returns-2)
+layer-chart2-spec =
+    tie.close
+    (tie.spec
+    (λ c κs. search needs)
+    (λ c. search needs)
+    (λ c. search needs)
+    returns
+    returns-2)

@@ -27,15 +27,6 @@ cuts-good e b t =
     let z = lastExtent (extents3 e) in
     is-true (goodCuts (cutsOf (b .cuts)) z) (joined (ltb 0 (b .cuts .first)) (ltb (b .cuts .first) (b .cuts .second)) (ltb (b .cuts .second) z) t)
 
-check-requires : tie.Need-check-requires
-check-requires c κs = search needs
-
-enum-known-r : tie.Need-enum-known-r
-enum-known-r c = search needs
-
-enum-told : tie.Need-enum-told
-enum-told c = search needs
-
 chart-of-requires : tie.Need-chart-of-requires
 chart-of-requires c κs =
     let m = c .before .before .before .before .before .before .before .before .args .map in
@@ -46,9 +37,6 @@ returns : tie.Need-returns
 unfolding layerChartEntry
 returns c = simp (sym (c .before .before .before .check .ensures) ∙ ap checkOf (c .before .r .given .1))
 
-same-length : tie.Need-same-length
-same-length c = search needs
-
 returns-2 : tie.Need-returns-2
 unfolding layerChartEntry
 returns-2 c = rw (sym (c .before .before .before .before .before .before .before .before .check .ensures) ∙ ap checkOf (c .before .before .before .before .before .before .enum-told .given .1)) (c .before .before .chart-of .ensures)
@@ -57,10 +45,10 @@ pub layer-chart3-spec : {M : Type 1} → statement M
 layer-chart3-spec =
     tie.close
     (tie.spec
-    check-requires
-    enum-known-r
-    enum-told
+    (λ c κs. search needs)
+    (λ c. search needs)
+    (λ c. search needs)
     chart-of-requires
     returns
-    same-length
+    (λ c. search needs)
     returns-2)

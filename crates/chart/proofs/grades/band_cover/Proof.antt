@@ -25,9 +25,6 @@ loop-holds c =
     let a = c .before .args in
     (c .before .pre .1 .0, omega arith, rw (none-left (a .columns) (a .column) (now (a .odds)) (a .to)) refl)
 
-sub-z : tie.Need-sub-z Inv-loop μ-loop
-sub-z c = omega arith
-
 -- the next cell down is one of the list's
 place : (c : tie.In-loop Inv-loop μ-loop) → let a = c .before .before .before .args in a .column + (c .before .loop .z - 1) * a .columns < length (now (a .odds))
 place c =
@@ -57,12 +54,6 @@ mul-cell-eighths-2 c =
 
 shared-slice-read-cell-eighths : tie.Need-shared-slice-read-cell-eighths Inv-loop μ-loop
 shared-slice-read-cell-eighths c = place (c .before)
-
-cell-eighths-requires : tie.Need-cell-eighths-requires Inv-loop μ-loop
-cell-eighths-requires c κs = search needs
-
-larger-of-requires : tie.Need-larger-of-requires Inv-loop μ-loop
-larger-of-requires c κs = search needs
 
 loop-less : tie.Need-loop-less Inv-loop μ-loop
 loop-less c = let more = c .before .before .before .loop-test .taken in omega arith
@@ -95,13 +86,13 @@ band-cover-spec =
     Inv-loop
     μ-loop
     loop-holds
-    sub-z
+    (λ c. omega arith)
     mul-cell-eighths
     add-cell-eighths
     mul-cell-eighths-2
     shared-slice-read-cell-eighths
-    cell-eighths-requires
-    larger-of-requires
+    (λ c κs. search needs)
+    (λ c κs. search needs)
     loop-less
     loop-again
     returns)

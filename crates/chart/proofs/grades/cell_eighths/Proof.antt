@@ -18,27 +18,6 @@ returns : tie.Need-returns
 unfolding eighths
 returns c = rw (c .if1 .taken) refl
 
-at-limit-requires : tie.Need-at-limit-requires
-at-limit-requires c κs = search needs
-
-at-limit-requires-2 : tie.Need-at-limit-requires-2
-at-limit-requires-2 c κs = search needs
-
-at-limit-requires-3 : tie.Need-at-limit-requires-3
-at-limit-requires-3 c κs = search needs
-
-at-limit-requires-4 : tie.Need-at-limit-requires-4
-at-limit-requires-4 c κs = search needs
-
-at-limit-requires-5 : tie.Need-at-limit-requires-5
-at-limit-requires-5 c κs = search needs
-
-at-limit-requires-6 : tie.Need-at-limit-requires-6
-at-limit-requires-6 c κs = search needs
-
-at-limit-requires-7 : tie.Need-at-limit-requires-7
-at-limit-requires-7 c κs = search needs
-
 add-result : tie.Need-add-result
 add-result c =
     let h₇ = one _ _ _ (c .at-limit7 .ensures) in
@@ -110,13 +89,13 @@ cell-eighths-spec =
     tie.close
     (tie.spec
     returns
-    at-limit-requires
-    at-limit-requires-2
-    at-limit-requires-3
-    at-limit-requires-4
-    at-limit-requires-5
-    at-limit-requires-6
-    at-limit-requires-7
+    (λ c κs. search needs)
+    (λ c κs. search needs)
+    (λ c κs. search needs)
+    (λ c κs. search needs)
+    (λ c κs. search needs)
+    (λ c κs. search needs)
+    (λ c κs. search needs)
     add-result
     add-result-2
     add-result-3

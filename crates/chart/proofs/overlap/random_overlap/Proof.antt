@@ -12,17 +12,8 @@ at-most-eight a = omega arith
 clear-most : (a b c : ℕ) → (8 - a) * (8 - b) * (8 - c) ≤ 512
 clear-most a b c = mul-le-mul (mul-le-mul (at-most-eight a) (at-most-eight b)) (at-most-eight c)
 
-sub-result : tie.Need-sub-result
-sub-result c = search needs
-
-sub-result-2 : tie.Need-sub-result-2
-sub-result-2 c = search needs
-
 mul-result : tie.Need-mul-result
 mul-result c = omega (arith, mul-le-mul (at-most-eight (c .args .low)) (at-most-eight (c .args .middle)))
-
-sub-result-3 : tie.Need-sub-result-3
-sub-result-3 c = search needs
 
 mul-result-2 : tie.Need-mul-result-2
 mul-result-2 c = omega (arith, clear-most (c .args .low) (c .args .middle) (c .args .high))
@@ -30,10 +21,14 @@ mul-result-2 c = omega (arith, clear-most (c .args .low) (c .args .middle) (c .a
 sub-result-4 : tie.Need-sub-result-4
 sub-result-4 c = omega (arith, clear-most (c .args .low) (c .args .middle) (c .args .high))
 
-returns : tie.Need-returns
-returns c = search needs
-
 pub random-overlap-spec : {M : Type 1} → statement M
 random-overlap-spec =
     tie.close
-    (tie.spec sub-result sub-result-2 mul-result sub-result-3 mul-result-2 sub-result-4 returns)
+    (tie.spec
+    (λ c. search needs)
+    (λ c. search needs)
+    mul-result
+    (λ c. search needs)
+    mul-result-2
+    sub-result-4
+    (λ c. search needs))
