@@ -104,12 +104,6 @@ add-result c =
     let few = s .pre .0 .extents .1 in
     omega arith
 
-same-length : tie.Need-same-length Inv-loop μ-loop
-same-length c = search needs
-
-same-length-2 : tie.Need-same-length-2 Inv-loop μ-loop
-same-length-2 c = search needs
-
 returns : tie.Need-returns Inv-loop μ-loop
 returns c =
     let t = c .before .before .before .before .before .before .before .loop-test .left in
@@ -134,6 +128,6 @@ mark-column-spec =
     loop-again
     mark-counted3-requires-2
     add-result
-    same-length
-    same-length-2
+    (λ c. search needs)
+    (λ c. search needs)
     returns)

@@ -8,12 +8,6 @@ use Rattle.vertical.proofs.Climbing.{inside}
 use Rattle.vertical.proofs.entry.mark_vertical.Statement.{statement}
 use Rattle.vertical.proofs.entry.mark_vertical.Tie as tie
 
-cells-above-requires : tie.Need-cells-above-requires
-cells-above-requires c κs = search needs
-
-ends-occupied-requires : tie.Need-ends-occupied-requires
-ends-occupied-requires c κs = search needs
-
 -- the last cell is on the map
 last-below : (bottom top height above : ℕ) → above ≡ min top (height - 1) - bottom → bottom ≤ top → bottom < height → bottom + above < height
 last-below bottom top height above e r b = omega arith
@@ -25,12 +19,6 @@ mark-column-requires c κs =
     let i = inside _ _ (s .pre .1) in
     (s .pre .0, (i .x-on, (i .y-on, last-below _ _ _ _ (c .before .before .before .cells-above .ensures) (i .rises) (i .bottom-on))))
 
-same-length : tie.Need-same-length
-same-length c = search needs
-
-same-length-2 : tie.Need-same-length-2
-same-length-2 c = search needs
-
 returns : tie.Need-returns
 unfolding verticalMarks
 returns c =
@@ -38,4 +26,12 @@ returns c =
     at (c .before .before .before .before .mark-column .ensures)
 
 pub mark-vertical-spec : {M : Type 1} → statement M
-mark-vertical-spec = tie.close (tie.spec cells-above-requires ends-occupied-requires mark-column-requires same-length same-length-2 returns)
+mark-vertical-spec =
+    tie.close
+    (tie.spec
+    (λ c κs. search needs)
+    (λ c κs. search needs)
+    mark-column-requires
+    (λ c. search needs)
+    (λ c. search needs)
+    returns)

@@ -9,29 +9,11 @@ use Rattle.beam.proofs.Beaming.{integrated-along}
 use Rattle.vertical.proofs.entry.update_vertical3.Statement.{statement}
 use Rattle.vertical.proofs.entry.update_vertical3.Tie as tie
 
-check-requires : tie.Need-check-requires
-check-requires c κs = search needs
-
-enum-known-r : tie.Need-enum-known-r
-enum-known-r c = search needs
-
-enum-told : tie.Need-enum-told
-enum-told c = search needs
-
-in-profile-requires : tie.Need-in-profile-requires
-in-profile-requires c κs = search needs
-
 mark-vertical-requires : tie.Need-mark-vertical-requires
 mark-vertical-requires c κs = (
   ready _ _ _ (sym (c .before .before .before .before .before .before .check .ensures) ∙ ap checkOf (c .before .before .before .before .enum-told .given .1)),
   sym (c .before .before .before .in-profile .ensures) ∙ c .before .before .if1 .taken,
 )
-
-same-length : tie.Need-same-length
-same-length c = search needs
-
-same-length-2 : tie.Need-same-length-2
-same-length-2 c = search needs
 
 returns : tie.Need-returns
 unfolding updateVerticalEntry
@@ -55,13 +37,13 @@ pub update-vertical3-spec : {M : Type 1} → statement M
 update-vertical3-spec =
     tie.close
     (tie.spec
-    check-requires
-    enum-known-r
-    enum-told
-    in-profile-requires
+    (λ c κs. search needs)
+    (λ c. search needs)
+    (λ c. search needs)
+    (λ c κs. search needs)
     mark-vertical-requires
-    same-length
-    same-length-2
+    (λ c. search needs)
+    (λ c. search needs)
     returns
     returns-2
     returns-3)
