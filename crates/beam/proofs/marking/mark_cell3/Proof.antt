@@ -10,12 +10,6 @@ use Rattle.beam.proofs.marking.mark_cell3.Tie as tie
 translate-to-index3-requires : tie.Need-translate-to-index3-requires
 translate-to-index3-requires c κs = c .before .before .pre .extents
 
-enum-told : tie.Need-enum-told
-enum-told c = search needs
-
-enum-known-i : tie.Need-enum-known-i
-enum-known-i c = search needs
-
 mark-counted3-requires : tie.Need-mark-counted3-requires
 mark-counted3-requires c κs =
     let found = sym (c .before .before .before .before .before .translate-to-index3 .ensures) ∙ ap placeOf (c .before .before .before .i .given .1) in
@@ -26,12 +20,6 @@ mark-counted3-requires c κs =
 returns : tie.Need-returns
 returns c = rw (sym (c .before .before .translate-to-index3 .ensures) ∙ ap placeOf (c .enum-told .given .1)) (none-applied _ _ _ _ _)
 
-same-length : tie.Need-same-length
-same-length c = search needs
-
-same-length-2 : tie.Need-same-length-2
-same-length-2 c = search needs
-
 returns-2 : tie.Need-returns-2
 returns-2 c = rw (sym (c .before .before .before .before .before .before .before .before .before .before .translate-to-index3 .ensures) ∙ ap placeOf (c .before .before .before .before .before .before .before .before .i .given .1)) (c .before .before .before .before .mark-counted3 .ensures)
 
@@ -40,10 +28,10 @@ mark-cell3-spec =
     tie.close
     (tie.spec
     translate-to-index3-requires
-    enum-told
-    enum-known-i
+    (λ c. search needs)
+    (λ c. search needs)
     mark-counted3-requires
     returns
-    same-length
-    same-length-2
+    (λ c. search needs)
+    (λ c. search needs)
     returns-2)

@@ -9,27 +9,12 @@ use Rattle.beam.proofs.Applying.{one-applied}
 use Rattle.beam.proofs.marking.mark_counted.Statement.{statement}
 use Rattle.beam.proofs.marking.mark_counted.Tie as tie
 
-mark-place-requires : tie.Need-mark-place-requires
-mark-place-requires c κs = search needs
-
-same-length : tie.Need-same-length
-same-length c = search needs
-
-same-length-2 : tie.Need-same-length-2
-same-length-2 c = search needs
-
 returns : tie.Need-returns
 returns c =
     let a = c .before .before .before .before .before .before .before .before .before .before .args in
     one-applied binary64 (modelOf (a .model)) (a .frame .0) (a .occupied) (a .at) (now (a .odds)) _ (now (a .stamps)) _ (c .before .before .before .before .before .mark-place .result) 1
     (c .before .before .before .before .before .before .before .before .before .before .pre .1 .0)
     (c .before .before .before .before .before .mark-place .ensures) (sym (ap (λ (b : Bool). cond b 1 0) (c .if1 .taken)))
-
-same-length-3 : tie.Need-same-length-3
-same-length-3 c = search needs
-
-same-length-4 : tie.Need-same-length-4
-same-length-4 c = search needs
 
 returns-2 : tie.Need-returns-2
 returns-2 c =
@@ -39,4 +24,13 @@ returns-2 c =
     (c .before .before .before .before .before .mark-place .ensures) (sym (ap (λ (b : Bool). cond b 1 0) (c .if1 .left)))
 
 pub mark-counted-spec : {M : Type 1} → statement M
-mark-counted-spec = tie.close (tie.spec mark-place-requires same-length same-length-2 returns same-length-3 same-length-4 returns-2)
+mark-counted-spec =
+    tie.close
+    (tie.spec
+    (λ c κs. search needs)
+    (λ c. search needs)
+    (λ c. search needs)
+    returns
+    (λ c. search needs)
+    (λ c. search needs)
+    returns-2)

@@ -10,27 +10,12 @@ use Rattle.beam.proofs.Applying.{one-applied}
 use Rattle.beam.proofs.marking.mark_counted3.Statement.{statement}
 use Rattle.beam.proofs.marking.mark_counted3.Tie as tie
 
-mark-place3-requires : tie.Need-mark-place3-requires
-mark-place3-requires c κs = search needs
-
-same-length : tie.Need-same-length
-same-length c = search needs
-
-same-length-2 : tie.Need-same-length-2
-same-length-2 c = search needs
-
 returns : tie.Need-returns
 returns c =
     let a = c .before .before .before .before .before .before .before .before .before .before .args in
     one-applied binary64 (bandsOf (a .map .extents) (a .map .bands)) (a .map .frame .0) (a .occupied) (a .at) (now (a .odds)) _ (now (a .stamps)) _ (c .before .before .before .before .before .mark-place3 .result) 1
     (subst (λ (k : ℕ). a .at < k) (c .before .before .before .before .before .before .before .before .before .before .pre .0 .odds-count ∙ sym (c .before .before .before .before .before .before .before .before .before .before .pre .0 .stamps-count)) (c .before .before .before .before .before .before .before .before .before .before .pre .1))
     (c .before .before .before .before .before .mark-place3 .ensures) (sym (ap (λ (b : Bool). cond b 1 0) (c .if1 .taken)))
-
-same-length-3 : tie.Need-same-length-3
-same-length-3 c = search needs
-
-same-length-4 : tie.Need-same-length-4
-same-length-4 c = search needs
 
 returns-2 : tie.Need-returns-2
 returns-2 c =
@@ -40,4 +25,13 @@ returns-2 c =
     (c .before .before .before .before .before .mark-place3 .ensures) (sym (ap (λ (b : Bool). cond b 1 0) (c .if1 .left)))
 
 pub mark-counted3-spec : {M : Type 1} → statement M
-mark-counted3-spec = tie.close (tie.spec mark-place3-requires same-length same-length-2 returns same-length-3 same-length-4 returns-2)
+mark-counted3-spec =
+    tie.close
+    (tie.spec
+    (λ c κs. search needs)
+    (λ c. search needs)
+    (λ c. search needs)
+    returns
+    (λ c. search needs)
+    (λ c. search needs)
+    returns-2)

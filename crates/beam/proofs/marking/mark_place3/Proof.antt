@@ -13,12 +13,6 @@ mark-place-requires c κs =
     let p = c .before .before .before .before .before .pre in
     (p .1, (subst (λ (n : ℕ). c .before .before .before .before .before .args .at < n) (p .0 .odds-count ∙ sym (p .0 .stamps-count)) (p .1), p .0 .frame))
 
-same-length : tie.Need-same-length
-same-length c = search needs
-
-same-length-2 : tie.Need-same-length-2
-same-length-2 c = search needs
-
 returns : tie.Need-returns
 returns c = rw (c .before .before .before .before .before .before .before .model-at .ensures) at (c .before .before .before .before .mark-place .ensures)
 
@@ -28,6 +22,6 @@ mark-place3-spec =
     (tie.spec
     model-at-requires
     mark-place-requires
-    same-length
-    same-length-2
+    (λ c. search needs)
+    (λ c. search needs)
     returns)
