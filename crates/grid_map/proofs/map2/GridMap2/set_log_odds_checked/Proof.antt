@@ -9,15 +9,6 @@ use Rattle.checks.specs.Checking.{checkOf}
 use Rattle.grid_map.proofs.map2.GridMap2.set_log_odds_checked.Statement.{statement}
 use Rattle.grid_map.proofs.map2.GridMap2.set_log_odds_checked.Tie as tie
 
-check-requires : tie.Need-check-requires
-check-requires c κs = search needs
-
-enum-known-tried : tie.Need-enum-known-tried
-enum-known-tried c = search needs
-
-enum-told : tie.Need-enum-told
-enum-told c = search needs
-
 translate-to-index2-requires : tie.Need-translate-to-index2-requires
 translate-to-index2-requires c κs = passed _ _ _ _ (sym (c .before .before .check .ensures) ∙ ap checkOf (c .enum-told .given .1)) .extents
 
@@ -27,9 +18,6 @@ set-checked-at-requires c κs = λ i h. rw (passed _ _ _ _ (sym (c .before .befo
 returns : tie.Need-returns
 unfolding setLogOddsCheckedEntry
 returns c = simp (sym (c .before .before .before .check .ensures) ∙ ap checkOf (c .before .tried .given .1))
-
-same-length : tie.Need-same-length
-same-length c = search needs
 
 returns-2 : tie.Need-returns-2
 unfolding setLogOddsCheckedEntry
@@ -42,11 +30,11 @@ pub set-log-odds-checked-spec : {M : Type 1} → statement M
 set-log-odds-checked-spec =
     tie.close
     (tie.spec
-    check-requires
-    enum-known-tried
-    enum-told
+    (λ c κs. search needs)
+    (λ c. search needs)
+    (λ c. search needs)
     translate-to-index2-requires
     set-checked-at-requires
     returns
-    same-length
+    (λ c. search needs)
     returns-2)

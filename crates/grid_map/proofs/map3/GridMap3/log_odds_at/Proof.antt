@@ -8,15 +8,6 @@ use Rattle.checks.specs.Checking.{checkOf}
 use Rattle.grid_map.proofs.map3.GridMap3.log_odds_at.Statement.{statement}
 use Rattle.grid_map.proofs.map3.GridMap3.log_odds_at.Tie as tie
 
-check-requires : tie.Need-check-requires
-check-requires c κs = search needs
-
-enum-known-r : tie.Need-enum-known-r
-enum-known-r c = search needs
-
-enum-told : tie.Need-enum-told
-enum-told c = search needs
-
 translate-to-index3-requires : tie.Need-translate-to-index3-requires
 translate-to-index3-requires c κs = passed _ _ _ _ (sym (c .before .before .check .ensures) ∙ ap checkOf (c .enum-told .given .1)) .extents
 
@@ -37,9 +28,9 @@ pub log-odds-at-spec : {M : Type 1} → statement M
 log-odds-at-spec =
     tie.close
     (tie.spec
-    check-requires
-    enum-known-r
-    enum-told
+    (λ c κs. search needs)
+    (λ c. search needs)
+    (λ c. search needs)
     translate-to-index3-requires
     read-at-requires
     returns

@@ -9,30 +9,9 @@ use Rattle.grid_map.proofs.Fresh.{cleared}
 use Rattle.grid_map.proofs.map3.GridMap3.new.Statement.{statement}
 use Rattle.grid_map.proofs.map3.GridMap3.new.Tie as tie
 
-head-check3-requires : tie.Need-head-check3-requires
-head-check3-requires c κs = search needs
-
-enum-known-r : tie.Need-enum-known-r
-enum-known-r c = search needs
-
-enum-told : tie.Need-enum-told
-enum-told c = search needs
-
-clear-odds-requires : tie.Need-clear-odds-requires
-clear-odds-requires c κs = search needs
-
-clear-stamps-requires : tie.Need-clear-stamps-requires
-clear-stamps-requires c κs = search needs
-
 returns : tie.Need-returns
 unfolding newEntry
 returns c = simp (sym (c .before .before .before .head-check3 .ensures) ∙ ap checkOf (c .before .r .given .1))
-
-same-length : tie.Need-same-length
-same-length c = search needs
-
-same-length-2 : tie.Need-same-length-2
-same-length-2 c = search needs
 
 returns-2 : tie.Need-returns-2
 unfolding newEntry
@@ -45,12 +24,12 @@ pub new-spec : {M : Type 1} → statement M
 new-spec =
     tie.close
     (tie.spec
-    head-check3-requires
-    enum-known-r
-    enum-told
-    clear-odds-requires
-    clear-stamps-requires
+    (λ c κs. search needs)
+    (λ c. search needs)
+    (λ c. search needs)
+    (λ c κs. search needs)
+    (λ c κs. search needs)
     returns
-    same-length
-    same-length-2
+    (λ c. search needs)
+    (λ c. search needs)
     returns-2)

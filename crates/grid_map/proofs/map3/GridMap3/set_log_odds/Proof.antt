@@ -10,23 +10,8 @@ use Rattle.places.specs.Places.{placeOf}
 use Rattle.grid_map.proofs.map3.GridMap3.set_log_odds.Statement.{statement}
 use Rattle.grid_map.proofs.map3.GridMap3.set_log_odds.Tie as tie
 
-check-requires : tie.Need-check-requires
-check-requires c κs = search needs
-
-enum-known-r : tie.Need-enum-known-r
-enum-known-r c = search needs
-
-enum-told : tie.Need-enum-told
-enum-told c = search needs
-
 translate-to-index3-requires : tie.Need-translate-to-index3-requires
 translate-to-index3-requires c κs = passed _ _ _ _ (sym (c .before .before .check .ensures) ∙ ap checkOf (c .enum-told .given .1)) .extents
-
-enum-known-r-2 : tie.Need-enum-known-r-2
-enum-known-r-2 c = search needs
-
-enum-known-i : tie.Need-enum-known-i
-enum-known-i c = search needs
 
 set-log-odds-at-requires : tie.Need-set-log-odds-at-requires
 set-log-odds-at-requires c κs = rw (passed _ _ _ _ (sym (c .before .before .before .before .before .before .before .check .ensures) ∙ ap checkOf (c .before .before .before .before .before .enum-told .given .1)) .odds-count tt) (place-lt _ _ _ refl (sym (c .before .before .before .before .translate-to-index3 .ensures) ∙ ap placeOf (c .before .before .i .given .1)))
@@ -41,9 +26,6 @@ returns-2 c =
     let fine = sym (c .before .before .before .before .before .before .check .ensures) ∙ ap checkOf (c .before .before .before .before .enum-told .given .1) in
     rw fine (simp (sym (c .before .before .before .translate-to-index3 .ensures) ∙ ap placeOf (c .before .r2 .given .1)))
 
-same-length : tie.Need-same-length
-same-length c = search needs
-
 returns-3 : tie.Need-returns-3
 unfolding setLogOddsEntry
 returns-3 c =
@@ -55,14 +37,14 @@ pub set-log-odds-spec : {M : Type 1} → statement M
 set-log-odds-spec =
     tie.close
     (tie.spec
-    check-requires
-    enum-known-r
-    enum-told
+    (λ c κs. search needs)
+    (λ c. search needs)
+    (λ c. search needs)
     translate-to-index3-requires
-    enum-known-r-2
-    enum-known-i
+    (λ c. search needs)
+    (λ c. search needs)
     set-log-odds-at-requires
     returns
     returns-2
-    same-length
+    (λ c. search needs)
     returns-3)
