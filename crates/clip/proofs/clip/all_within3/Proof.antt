@@ -5,15 +5,6 @@ use Rattle.clip.proofs.ByAxis.{not-all-within, within-then, last-within
 use Rattle.clip.proofs.clip.all_within3.Statement.{statement}
 use Rattle.clip.proofs.clip.all_within3.Tie as tie
 
-within-requires : tie.Need-within-requires
-within-requires c κs = search needs
-
-within-requires-2 : tie.Need-within-requires-2
-within-requires-2 c κs = search needs
-
-within-requires-3 : tie.Need-within-requires-3
-within-requires-3 c κs = search needs
-
 returns : tie.Need-returns
 returns c =
     let y = c .before .before in
@@ -32,9 +23,9 @@ pub all-within3-spec : {M : Type 1} → statement M
 all-within3-spec =
     tie.close
     (tie.spec
-    within-requires
-    within-requires-2
-    within-requires-3
+    (λ c κs. search needs)
+    (λ c κs. search needs)
+    (λ c κs. search needs)
     returns
     returns-2
     returns-3)

@@ -5,22 +5,13 @@ use Rattle.clip.proofs.ByAxis.{beyond-one, beyond-then, last-beyond}
 use Rattle.clip.proofs.clip.both_beyond3.Statement.{statement}
 use Rattle.clip.proofs.clip.both_beyond3.Tie as tie
 
-beyond-requires : tie.Need-beyond-requires
-beyond-requires c κs = search needs
-
 returns : tie.Need-returns
 returns c = beyond-one binary64 _ _ _ (c .before .beyond .ensures) _ _ _ (c .if1 .taken)
-
-beyond-requires-2 : tie.Need-beyond-requires-2
-beyond-requires-2 c κs = search needs
 
 returns-2 : tie.Need-returns-2
 returns-2 c =
     beyond-then binary64 _ _ _ (c .before .before .before .beyond .ensures) _ _ _ (c .before .before .if1 .left)
     (beyond-one binary64 _ _ _ (c .before .beyond2 .ensures) _ _ _ (c .if2 .taken))
-
-beyond-requires-3 : tie.Need-beyond-requires-3
-beyond-requires-3 c κs = search needs
 
 returns-3 : tie.Need-returns-3
 returns-3 c =
@@ -31,4 +22,4 @@ returns-3 c =
 pub both-beyond3-spec : {M : Type 1} → statement M
 both-beyond3-spec =
     tie.close
-    (tie.spec beyond-requires returns beyond-requires-2 returns-2 beyond-requires-3 returns-3)
+    (tie.spec (λ c κs. search needs) returns (λ c κs. search needs) returns-2 (λ c κs. search needs) returns-3)

@@ -7,27 +7,6 @@ use Rattle.clip.proofs.Trying.{passes-by, cut-out}
 use Rattle.clip.proofs.clip.clip_segment3.Statement.{statement}
 use Rattle.clip.proofs.clip.clip_segment3.Tie as tie
 
-directions3-requires : tie.Need-directions3-requires
-directions3-requires c κs = search needs
-
-slabs3-requires : tie.Need-slabs3-requires
-slabs3-requires c κs = search needs
-
-enum-told : tie.Need-enum-told
-enum-told c = search needs
-
-enum-known-s : tie.Need-enum-known-s
-enum-known-s c = search needs
-
-point-at3-requires : tie.Need-point-at3-requires
-point-at3-requires c κs = search needs
-
-point-at3-requires-2 : tie.Need-point-at3-requires-2
-point-at3-requires-2 c κs = search needs
-
-clipped-at3-requires : tie.Need-clipped-at3-requires
-clipped-at3-requires c κs = search needs
-
 returns : tie.Need-returns
 returns c = passes-by binary64 _ _ _ (c .before .before .before .directions3 .ensures) (c .before .before .slabs3 .ensures) (ap passageOf (c .enum-told .given .1))
 
@@ -41,12 +20,12 @@ pub clip-segment3-spec : {M : Type 1} → statement M
 clip-segment3-spec =
     tie.close
     (tie.spec
-    directions3-requires
-    slabs3-requires
-    enum-told
-    enum-known-s
-    point-at3-requires
-    point-at3-requires-2
-    clipped-at3-requires
+    (λ c κs. search needs)
+    (λ c κs. search needs)
+    (λ c. search needs)
+    (λ c. search needs)
+    (λ c κs. search needs)
+    (λ c κs. search needs)
+    (λ c κs. search needs)
     returns
     returns-2)

@@ -5,20 +5,8 @@ use Rattle.clip.proofs.Trying.{within-the-face, clamped}
 use Rattle.clip.proofs.clip.clipped_at2.Statement.{statement}
 use Rattle.clip.proofs.clip.clipped_at2.Tie as tie
 
-both-beyond2-requires : tie.Need-both-beyond2-requires
-both-beyond2-requires c κs = search needs
-
 returns : tie.Need-returns
 returns c = within-the-face binary64 _ _ _ _ (c .before .both-beyond2 .ensures) (c .if1 .taken)
-
-clamp-to-addressable-cell2-requires : tie.Need-clamp-to-addressable-cell2-requires
-clamp-to-addressable-cell2-requires c κs = search needs
-
-clamp-to-addressable-cell2-requires-2 : tie.Need-clamp-to-addressable-cell2-requires-2
-clamp-to-addressable-cell2-requires-2 c κs = search needs
-
-is-inside2-requires : tie.Need-is-inside2-requires
-is-inside2-requires c κs = search needs
 
 returns-2 : tie.Need-returns-2
 returns-2 c =
@@ -30,9 +18,9 @@ pub clipped-at2-spec : {M : Type 1} → statement M
 clipped-at2-spec =
     tie.close
     (tie.spec
-    both-beyond2-requires
+    (λ c κs. search needs)
     returns
-    clamp-to-addressable-cell2-requires
-    clamp-to-addressable-cell2-requires-2
-    is-inside2-requires
+    (λ c κs. search needs)
+    (λ c κs. search needs)
+    (λ c κs. search needs)
     returns-2)

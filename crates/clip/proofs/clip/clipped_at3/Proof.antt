@@ -5,20 +5,8 @@ use Rattle.clip.proofs.Trying.{within-the-face, clamped}
 use Rattle.clip.proofs.clip.clipped_at3.Statement.{statement}
 use Rattle.clip.proofs.clip.clipped_at3.Tie as tie
 
-both-beyond3-requires : tie.Need-both-beyond3-requires
-both-beyond3-requires c κs = search needs
-
 returns : tie.Need-returns
 returns c = within-the-face binary64 _ _ _ _ (c .before .both-beyond3 .ensures) (c .if1 .taken)
-
-clamp-to-addressable-cell3-requires : tie.Need-clamp-to-addressable-cell3-requires
-clamp-to-addressable-cell3-requires c κs = search needs
-
-clamp-to-addressable-cell3-requires-2 : tie.Need-clamp-to-addressable-cell3-requires-2
-clamp-to-addressable-cell3-requires-2 c κs = search needs
-
-is-inside3-requires : tie.Need-is-inside3-requires
-is-inside3-requires c κs = search needs
 
 returns-2 : tie.Need-returns-2
 returns-2 c =
@@ -30,9 +18,9 @@ pub clipped-at3-spec : {M : Type 1} → statement M
 clipped-at3-spec =
     tie.close
     (tie.spec
-    both-beyond3-requires
+    (λ c κs. search needs)
     returns
-    clamp-to-addressable-cell3-requires
-    clamp-to-addressable-cell3-requires-2
-    is-inside3-requires
+    (λ c κs. search needs)
+    (λ c κs. search needs)
+    (λ c κs. search needs)
     returns-2)

@@ -8,18 +8,6 @@ use Rattle.clip.proofs.Passages.{whole, stops-there, goes-through, last
 use Rattle.clip.proofs.clip.slabs2.Statement.{statement}
 use Rattle.clip.proofs.clip.slabs2.Tie as tie
 
-slab-requires : tie.Need-slab-requires
-slab-requires c κs = search needs
-
-enum-told : tie.Need-enum-told
-enum-told c = search needs
-
-enum-known-s : tie.Need-enum-known-s
-enum-known-s c = search needs
-
-slab-requires-2 : tie.Need-slab-requires-2
-slab-requires-2 c κs = search needs
-
 returns : tie.Need-returns
 returns c = stops-there binary64 _ _ _ (whole (zero-is binary64) (one-is binary64)) (c .before .before .slab .ensures) _ _ _ (ap passageOf (c .enum-told .given .1))
 
@@ -31,4 +19,11 @@ returns-2 c =
 
 pub slabs2-spec : {M : Type 1} → statement M
 slabs2-spec =
-    tie.close (tie.spec slab-requires enum-told enum-known-s slab-requires-2 returns returns-2)
+    tie.close
+    (tie.spec
+    (λ c κs. search needs)
+    (λ c. search needs)
+    (λ c. search needs)
+    (λ c κs. search needs)
+    returns
+    returns-2)

@@ -6,9 +6,6 @@ use Rattle.clip.proofs.Crossing.{beyond, not-beyond}
 use Rattle.clip.proofs.slabs.beyond.Statement.{statement}
 use Rattle.clip.proofs.slabs.beyond.Tie as tie
 
-nearest-u64-to-f64-requires : tie.Need-nearest-u64-to-f64-requires
-nearest-u64-to-f64-requires c κs = search needs
-
 returns : tie.Need-returns
 unfolding numberF
 returns c = beyond binary64 _ (c .before .nearest-u64-to-f64 .ensures) _ _ (c .if1 .taken)
@@ -18,4 +15,4 @@ unfolding numberF
 returns-2 c = not-beyond binary64 _ (c .before .nearest-u64-to-f64 .ensures) _ _ (c .if1 .left)
 
 pub beyond-spec : {M : Type 1} → statement M
-beyond-spec = tie.close (tie.spec nearest-u64-to-f64-requires returns returns-2)
+beyond-spec = tie.close (tie.spec (λ c κs. search needs) returns returns-2)

@@ -7,9 +7,6 @@ use Rattle.clip.proofs.Crossing.{clamps-low, clamps-high, keeps}
 use Rattle.clip.proofs.slabs.clamp_axis.Statement.{statement}
 use Rattle.clip.proofs.slabs.clamp_axis.Tie as tie
 
-nearest-u64-to-f64-requires : tie.Need-nearest-u64-to-f64-requires
-nearest-u64-to-f64-requires c κs = search needs
-
 returns : tie.Need-returns
 unfolding numberF
 returns c = clamps-low binary64 _ (zero-is binary64) (c .before .nearest-u64-to-f64 .ensures) _ (c .if1 .taken)
@@ -23,4 +20,4 @@ unfolding numberF
 returns-3 c = keeps binary64 _ (zero-is binary64) (c .before .before .nearest-u64-to-f64 .ensures) _ (half-is binary64) (c .before .if1 .left) (c .if2 .left)
 
 pub clamp-axis-spec : {M : Type 1} → statement M
-clamp-axis-spec = tie.close (tie.spec nearest-u64-to-f64-requires returns returns-2 returns-3)
+clamp-axis-spec = tie.close (tie.spec (λ c κs. search needs) returns returns-2 returns-3)

@@ -4,12 +4,6 @@ use Rattle.clip.proofs.Crossing.{cut-away, cut-down}
 use Rattle.clip.proofs.slabs.cut_to.Statement.{statement}
 use Rattle.clip.proofs.slabs.cut_to.Tie as tie
 
-larger-of-requires : tie.Need-larger-of-requires
-larger-of-requires c κs = search needs
-
-smaller-of-requires : tie.Need-smaller-of-requires
-smaller-of-requires c κs = search needs
-
 returns : tie.Need-returns
 returns c = cut-away _ _ _ (c .before .before .larger-of .ensures) (c .before .smaller-of .ensures) (c .if1 .taken)
 
@@ -17,4 +11,4 @@ returns-2 : tie.Need-returns-2
 returns-2 c = cut-down _ _ _ (c .before .before .larger-of .ensures) (c .before .smaller-of .ensures) (c .if1 .left)
 
 pub cut-to-spec : {M : Type 1} → statement M
-cut-to-spec = tie.close (tie.spec larger-of-requires smaller-of-requires returns returns-2)
+cut-to-spec = tie.close (tie.spec (λ c κs. search needs) (λ c κs. search needs) returns returns-2)

@@ -7,9 +7,6 @@ use Rattle.clip.proofs.Crossing.{misses-below, misses-above, stays-in, 
 use Rattle.clip.proofs.slabs.slab.Statement.{statement}
 use Rattle.clip.proofs.slabs.slab.Tie as tie
 
-nearest-u64-to-f64-requires : tie.Need-nearest-u64-to-f64-requires
-nearest-u64-to-f64-requires c κs = search needs
-
 returns : tie.Need-returns
 unfolding numberF
 returns c = misses-below binary64 _ (zero-is binary64) (c .before .before .nearest-u64-to-f64 .ensures) _ _ _ (c .before .if1 .taken) (c .if2 .taken)
@@ -24,15 +21,6 @@ unfolding numberF
 returns-3 c =
     stays-in binary64 _ (zero-is binary64) (c .before .before .before .nearest-u64-to-f64 .ensures) _ _ _ (c .before .before .if1 .taken) (c .before .if2 .left) (c .if3 .left)
 
-chosen-requires : tie.Need-chosen-requires
-chosen-requires c κs = search needs
-
-chosen-requires-2 : tie.Need-chosen-requires-2
-chosen-requires-2 c κs = search needs
-
-cut-to-requires : tie.Need-cut-to-requires
-cut-to-requires c κs = search needs
-
 returns-4 : tie.Need-returns-4
 unfolding numberF
 returns-4 c =
@@ -43,11 +31,11 @@ pub slab-spec : {M : Type 1} → statement M
 slab-spec =
     tie.close
     (tie.spec
-    nearest-u64-to-f64-requires
+    (λ c κs. search needs)
     returns
     returns-2
     returns-3
-    chosen-requires
-    chosen-requires-2
-    cut-to-requires
+    (λ c κs. search needs)
+    (λ c κs. search needs)
+    (λ c κs. search needs)
     returns-4)

@@ -4,12 +4,6 @@ use Rattle.clip.proofs.ByAxis.{not-all-finite, finite-then, last-finite
 use Rattle.clip.proofs.tried.all_finite2.Statement.{statement}
 use Rattle.clip.proofs.tried.all_finite2.Tie as tie
 
-is-finite-requires : tie.Need-is-finite-requires
-is-finite-requires c κs = search needs
-
-is-finite-requires-2 : tie.Need-is-finite-requires-2
-is-finite-requires-2 c κs = search needs
-
 returns : tie.Need-returns
 returns c = finite-then _ (c .before .before .is-finite .ensures) _ (c .before .if1 .taken) (last-finite _ (c .is-finite2 .ensures))
 
@@ -17,4 +11,4 @@ returns-2 : tie.Need-returns-2
 returns-2 c = not-all-finite _ (c .before .is-finite .ensures) _ (c .if1 .left)
 
 pub all-finite2-spec : {M : Type 1} → statement M
-all-finite2-spec = tie.close (tie.spec is-finite-requires is-finite-requires-2 returns returns-2)
+all-finite2-spec = tie.close (tie.spec (λ c κs. search needs) (λ c κs. search needs) returns returns-2)

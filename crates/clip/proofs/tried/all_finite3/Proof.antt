@@ -4,15 +4,6 @@ use Rattle.clip.proofs.ByAxis.{not-all-finite, finite-then, last-finite
 use Rattle.clip.proofs.tried.all_finite3.Statement.{statement}
 use Rattle.clip.proofs.tried.all_finite3.Tie as tie
 
-is-finite-requires : tie.Need-is-finite-requires
-is-finite-requires c κs = search needs
-
-is-finite-requires-2 : tie.Need-is-finite-requires-2
-is-finite-requires-2 c κs = search needs
-
-is-finite-requires-3 : tie.Need-is-finite-requires-3
-is-finite-requires-3 c κs = search needs
-
 returns : tie.Need-returns
 returns c =
     let y = c .before .before in
@@ -30,9 +21,9 @@ pub all-finite3-spec : {M : Type 1} → statement M
 all-finite3-spec =
     tie.close
     (tie.spec
-    is-finite-requires
-    is-finite-requires-2
-    is-finite-requires-3
+    (λ c κs. search needs)
+    (λ c κs. search needs)
+    (λ c κs. search needs)
     returns
     returns-2
     returns-3)

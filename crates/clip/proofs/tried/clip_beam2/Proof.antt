@@ -7,12 +7,6 @@ use Rattle.clip.proofs.Trying.{on-the-map, both-finite, ends-nowhere, s
 use Rattle.clip.proofs.tried.clip_beam2.Statement.{statement}
 use Rattle.clip.proofs.tried.clip_beam2.Tie as tie
 
-all-within2-requires : tie.Need-all-within2-requires
-all-within2-requires c κs = search needs
-
-all-within2-requires-2 : tie.Need-all-within2-requires-2
-all-within2-requires-2 c κs = search needs
-
 uncut2-requires : tie.Need-uncut2-requires
 uncut2-requires c κs =
     (c .before .before .before .before .pre, (sym (c .before .before .before .all-within2 .ensures) ∙ c .before .before .if1 .taken, sym (c .before .all-within22 .ensures) ∙ c .if2 .taken))
@@ -22,15 +16,6 @@ returns c =
     let e = c .before .before in
     let s = e .before .before in
     on-the-map binary64 _ _ _ (s .before .pre) (omega arith) (omega arith) (s .all-within2 .ensures) (e .before .if1 .taken) (e .all-within22 .ensures) (c .before .if2 .taken) (c .uncut2 .ensures)
-
-all-finite2-requires : tie.Need-all-finite2-requires
-all-finite2-requires c κs = search needs
-
-all-finite2-requires-2 : tie.Need-all-finite2-requires-2
-all-finite2-requires-2 c κs = search needs
-
-clip-segment2-requires : tie.Need-clip-segment2-requires
-clip-segment2-requires c κs = search needs
 
 returns-2 : tie.Need-returns-2
 returns-2 c =
@@ -47,13 +32,13 @@ pub clip-beam2-spec : {M : Type 1} → statement M
 clip-beam2-spec =
     tie.close
     (tie.spec
-    all-within2-requires
-    all-within2-requires-2
+    (λ c κs. search needs)
+    (λ c κs. search needs)
     uncut2-requires
     returns
-    all-finite2-requires
-    all-finite2-requires-2
-    clip-segment2-requires
+    (λ c κs. search needs)
+    (λ c κs. search needs)
+    (λ c κs. search needs)
     returns-2
     returns-3
     returns-4)

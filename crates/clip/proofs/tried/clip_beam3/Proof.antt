@@ -7,12 +7,6 @@ use Rattle.clip.proofs.Trying.{on-the-map, both-finite, ends-nowhere, s
 use Rattle.clip.proofs.tried.clip_beam3.Statement.{statement}
 use Rattle.clip.proofs.tried.clip_beam3.Tie as tie
 
-all-within3-requires : tie.Need-all-within3-requires
-all-within3-requires c κs = search needs
-
-all-within3-requires-2 : tie.Need-all-within3-requires-2
-all-within3-requires-2 c κs = search needs
-
 uncut3-requires : tie.Need-uncut3-requires
 uncut3-requires c κs =
     (c .before .before .before .before .pre, (sym (c .before .before .before .all-within3 .ensures) ∙ c .before .before .if1 .taken, sym (c .before .all-within32 .ensures) ∙ c .if2 .taken))
@@ -22,15 +16,6 @@ returns c =
     let e = c .before .before in
     let s = e .before .before in
     on-the-map binary64 _ _ _ (s .before .pre) (omega arith) (omega arith) (s .all-within3 .ensures) (e .before .if1 .taken) (e .all-within32 .ensures) (c .before .if2 .taken) (c .uncut3 .ensures)
-
-all-finite3-requires : tie.Need-all-finite3-requires
-all-finite3-requires c κs = search needs
-
-all-finite3-requires-2 : tie.Need-all-finite3-requires-2
-all-finite3-requires-2 c κs = search needs
-
-clip-segment3-requires : tie.Need-clip-segment3-requires
-clip-segment3-requires c κs = search needs
 
 returns-2 : tie.Need-returns-2
 returns-2 c =
@@ -47,13 +32,13 @@ pub clip-beam3-spec : {M : Type 1} → statement M
 clip-beam3-spec =
     tie.close
     (tie.spec
-    all-within3-requires
-    all-within3-requires-2
+    (λ c κs. search needs)
+    (λ c κs. search needs)
     uncut3-requires
     returns
-    all-finite3-requires
-    all-finite3-requires-2
-    clip-segment3-requires
+    (λ c κs. search needs)
+    (λ c κs. search needs)
+    (λ c κs. search needs)
     returns-2
     returns-3
     returns-4)

@@ -6,18 +6,6 @@ use Rattle.clip.proofs.Trying.{uncut}
 use Rattle.clip.proofs.tried.uncut2.Statement.{statement}
 use Rattle.clip.proofs.tried.uncut2.Tie as tie
 
-directions2-requires : tie.Need-directions2-requires
-directions2-requires c κs = search needs
-
-point-at2-requires : tie.Need-point-at2-requires
-point-at2-requires c κs = search needs
-
-point-at2-requires-2 : tie.Need-point-at2-requires-2
-point-at2-requires-2 c κs = search needs
-
-clipped-at2-requires : tie.Need-clipped-at2-requires
-clipped-at2-requires c κs = search needs
-
 returns : tie.Need-returns
 returns c =
     let known = c .before .before .before .before .pre in
@@ -28,8 +16,8 @@ pub uncut2-spec : {M : Type 1} → statement M
 uncut2-spec =
     tie.close
     (tie.spec
-    directions2-requires
-    point-at2-requires
-    point-at2-requires-2
-    clipped-at2-requires
+    (λ c κs. search needs)
+    (λ c κs. search needs)
+    (λ c κs. search needs)
+    (λ c κs. search needs)
     returns)

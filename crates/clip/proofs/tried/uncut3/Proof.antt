@@ -6,18 +6,6 @@ use Rattle.clip.proofs.Trying.{uncut}
 use Rattle.clip.proofs.tried.uncut3.Statement.{statement}
 use Rattle.clip.proofs.tried.uncut3.Tie as tie
 
-directions3-requires : tie.Need-directions3-requires
-directions3-requires c κs = search needs
-
-point-at3-requires : tie.Need-point-at3-requires
-point-at3-requires c κs = search needs
-
-point-at3-requires-2 : tie.Need-point-at3-requires-2
-point-at3-requires-2 c κs = search needs
-
-clipped-at3-requires : tie.Need-clipped-at3-requires
-clipped-at3-requires c κs = search needs
-
 returns : tie.Need-returns
 returns c =
     let known = c .before .before .before .before .pre in
@@ -28,8 +16,8 @@ pub uncut3-spec : {M : Type 1} → statement M
 uncut3-spec =
     tie.close
     (tie.spec
-    directions3-requires
-    point-at3-requires
-    point-at3-requires-2
-    clipped-at3-requires
+    (λ c κs. search needs)
+    (λ c κs. search needs)
+    (λ c κs. search needs)
+    (λ c κs. search needs)
     returns)
