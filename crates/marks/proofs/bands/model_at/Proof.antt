@@ -17,9 +17,6 @@ mul-if1 c =
     let p = c .before .before .before .before .before .before .pre in
     fits-le (cuts-most _ _ _ (p .0) _ _ _ _ _ _ (p .1) .0) (fits-lit {n = 4096 * (4096 * 4096)} tt)
 
-with-requires : tie.Need-with-requires
-with-requires c κs = search needs
-
 returns : tie.Need-returns
 returns c =
     let s = c .before .before .before .before .before .before .before .before in
@@ -30,17 +27,11 @@ mul-if2 c =
     let p = c .before .before .before .before .before .before .before .before .pre in
     fits-le (cuts-most _ _ _ (p .0) _ _ _ _ _ _ (p .1) .1) (fits-lit {n = 4096 * (4096 * 4096)} tt)
 
-with-requires-2 : tie.Need-with-requires-2
-with-requires-2 c κs = search needs
-
 returns-2 : tie.Need-returns-2
 returns-2 c =
     let s = c .before .before .before .before .before .before .before .before .before .before in
     ap (λ (m : Model). stepsAt m (s .args .place)) (c .with2 .ensures)
     ∙ steps-middle _ _ _ (s .pre .0) _ _ _ _ _ _ (s .args .place) (c .before .before .before .if1 .left) (c .before .if2 .taken)
-
-with-requires-3 : tie.Need-with-requires-3
-with-requires-3 c κs = search needs
 
 returns-3 : tie.Need-returns-3
 returns-3 c =
@@ -54,10 +45,10 @@ model-at-spec =
     (tie.spec
     mul-layer
     mul-if1
-    with-requires
+    (λ c κs. search needs)
     returns
     mul-if2
-    with-requires-2
+    (λ c κs. search needs)
     returns-2
-    with-requires-3
+    (λ c κs. search needs)
     returns-3)

@@ -8,9 +8,6 @@ use Rattle.places.specs.Places.{placeOf}
 use Rattle.marks.proofs.cells.read_at.Statement.{statement}
 use Rattle.marks.proofs.cells.read_at.Tie as tie
 
-enum-known-place : tie.Need-enum-known-place
-enum-known-place c = search needs
-
 found : (c : tie.After-place) → c .place .given .0 .0 < length (now (c .before .before .args .odds))
 found c = c .before .before .pre (c .place .given .0 .0) (ap placeOf (c .place .given .1))
 
@@ -20,9 +17,6 @@ mul-t5 c = let h = found (c .before) in search needs
 shared-slice-read-t7 : tie.Need-shared-slice-read-t7
 shared-slice-read-t7 c = found (c .before .before)
 
-enum-told : tie.Need-enum-told
-enum-told c = search needs
-
 returns : tie.Need-returns
 returns c = rw (ap placeOf (c .before .before .place .given .1))
 
@@ -31,4 +25,4 @@ returns-2 c = rw (ap placeOf (c .enum-told .given .1))
 
 pub read-at-spec : {M : Type 1} → statement M
 read-at-spec =
-    tie.close (tie.spec enum-known-place mul-t5 shared-slice-read-t7 enum-told returns returns-2)
+    tie.close (tie.spec (λ c. search needs) mul-t5 shared-slice-read-t7 (λ c. search needs) returns returns-2)

@@ -6,12 +6,6 @@ use Rattle.places.specs.Places.{placeOf}
 use Rattle.marks.proofs.cells.set_checked_at.Statement.{statement}
 use Rattle.marks.proofs.cells.set_checked_at.Tie as tie
 
-enum-known-place : tie.Need-enum-known-place
-enum-known-place c = search needs
-
-enum-known-place-2 : tie.Need-enum-known-place-2
-enum-known-place-2 c = search needs
-
 returns : tie.Need-returns
 returns c = λ m e. rw (ap placeOf (c .before .before .place2 .given .1)) (simp (unlike-itself (c .before .before .before .before .before .args .x), c .if1 .taken))
 
@@ -23,9 +17,6 @@ set-log-odds-at-requires c κs =
 returns-2 : tie.Need-returns-2
 returns-2 c = λ m e. rw (ap placeOf (c .before .place .given .1)) refl
 
-same-length : tie.Need-same-length
-same-length c = search needs
-
 returns-3 : tie.Need-returns-3
 returns-3 c = λ m e.
     let number = c .before .before .before .before .if1 .left in
@@ -35,4 +26,11 @@ returns-3 c = λ m e.
 pub set-checked-at-spec : {M : Type 1} → statement M
 set-checked-at-spec =
     tie.close
-    (tie.spec enum-known-place enum-known-place-2 returns set-log-odds-at-requires returns-2 same-length returns-3)
+    (tie.spec
+    (λ c. search needs)
+    (λ c. search needs)
+    returns
+    set-log-odds-at-requires
+    returns-2
+    (λ c. search needs)
+    returns-3)

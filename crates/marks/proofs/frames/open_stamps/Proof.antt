@@ -5,12 +5,6 @@ use Rattle.rules.specs.MarksAndFrames.{openedStamps}
 use Rattle.marks.proofs.frames.open_stamps.Statement.{statement}
 use Rattle.marks.proofs.frames.open_stamps.Tie as tie
 
-clear-stamps-requires : tie.Need-clear-stamps-requires
-clear-stamps-requires c κs = search needs
-
-same-length : tie.Need-same-length
-same-length c = search needs
-
 returns : tie.Need-returns
 unfolding openedStamps
 returns c = simp (le-leb _ _ (c .before .before .before .before .if1 .taken), c .before .before .clear-stamps .ensures)
@@ -20,4 +14,4 @@ unfolding openedStamps
 returns-2 c = simp (lt-leb _ _ (c .if1 .left))
 
 pub open-stamps-spec : {M : Type 1} → statement M
-open-stamps-spec = tie.close (tie.spec clear-stamps-requires same-length returns returns-2)
+open-stamps-spec = tie.close (tie.spec (λ c κs. search needs) (λ c. search needs) returns returns-2)

@@ -9,12 +9,9 @@ returns : tie.Need-returns
 unfolding openedFrame
 returns c = simp (le-leb _ _ (c .if1 .taken))
 
-add-t5 : tie.Need-add-t5
-add-t5 c = search needs
-
 returns-2 : tie.Need-returns-2
 unfolding openedFrame
 returns-2 c = simp (lt-leb _ _ (c .if1 .left))
 
 pub opened-spec : {M : Type 1} → statement M
-opened-spec = tie.close (tie.spec returns add-t5 returns-2)
+opened-spec = tie.close (tie.spec returns (λ c. search needs) returns-2)

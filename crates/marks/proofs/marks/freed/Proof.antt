@@ -4,12 +4,9 @@ use Rattle.rules.specs.MarksAndFrames.{freed, limited}
 use Rattle.marks.proofs.marks.freed.Statement.{statement}
 use Rattle.marks.proofs.marks.freed.Tie as tie
 
-clamp-requires : tie.Need-clamp-requires
-clamp-requires c κs = search needs
-
 returns : tie.Need-returns
 unfolding freed limited
 returns c = c .clamp .ensures
 
 pub freed-spec : {M : Type 1} → statement M
-freed-spec = tie.close (tie.spec clamp-requires returns)
+freed-spec = tie.close (tie.spec (λ c κs. search needs) returns)

@@ -6,15 +6,6 @@ use Rattle.marks.proofs.Marking.{on-the-floor, taken-back, nothing-back
 use Rattle.marks.proofs.marks.occupied_step.Statement.{statement}
 use Rattle.marks.proofs.marks.occupied_step.Tie as tie
 
-number-requires : tie.Need-number-requires
-number-requires c κs = search needs
-
-of-requires : tie.Need-of-requires
-of-requires c κs = search needs
-
-number-requires-2 : tie.Need-number-requires-2
-number-requires-2 c κs = search needs
-
 returns : tie.Need-returns
 returns c =
     let d = c .before .before .before in
@@ -33,4 +24,12 @@ returns-3 c =
     nothing-back binary64 _ _ _ _ (d .number2 .ensures ∙ d .before .of .ensures) (λ e. c .if1 .left (d .before .before .number .ensures ∙ e))
 
 pub occupied-step-spec : {M : Type 1} → statement M
-occupied-step-spec = tie.close (tie.spec number-requires of-requires number-requires-2 returns returns-2 returns-3)
+occupied-step-spec =
+    tie.close
+    (tie.spec
+    (λ c κs. search needs)
+    (λ c κs. search needs)
+    (λ c κs. search needs)
+    returns
+    returns-2
+    returns-3)
