@@ -23,26 +23,11 @@ abbrev μ-loop : tie.MeasureT-loop
 loop-holds : tie.Need-loop-holds Inv-loop μ-loop
 loop-holds c = (c .before .before .pre .0, c .before .before .pre .1, refl, refl)
 
-f64-at-requires : tie.Need-f64-at-requires Inv-loop μ-loop
-f64-at-requires c κs = omega arith
-
-mul-odds : tie.Need-mul-odds Inv-loop μ-loop
-mul-odds c = search needs
-
-slice-write-odds : tie.Need-slice-write-odds Inv-loop μ-loop
-slice-write-odds c = omega arith
-
 add-here : tie.Need-add-here Inv-loop μ-loop
 add-here c = let good = c .before .before .before .before .before .good in omega arith
 
 add-place : tie.Need-add-place Inv-loop μ-loop
 add-place c = let good = c .before .before .before .before .before .good in omega arith
-
-sub-left : tie.Need-sub-left Inv-loop μ-loop
-sub-left c = omega arith
-
-loop-less : tie.Need-loop-less Inv-loop μ-loop
-loop-less c = omega arith
 
 loop-again : tie.Need-loop-again Inv-loop μ-loop
 loop-again c =
@@ -72,13 +57,13 @@ read-row-spec =
     Inv-loop
     μ-loop
     loop-holds
-    f64-at-requires
-    mul-odds
-    slice-write-odds
+    (λ c κs. omega arith)
+    (λ c. search needs)
+    (λ c. omega arith)
     add-here
     add-place
-    sub-left
-    loop-less
+    (λ c. omega arith)
+    (λ c. omega arith)
     loop-again
     same-length
     returns)

@@ -20,20 +20,11 @@ abbrev μ-loop : tie.MeasureT-loop
 loop-holds : tie.Need-loop-holds Inv-loop μ-loop
 loop-holds c = (c .before .pre, refl)
 
-f64-at-requires : tie.Need-f64-at-requires Inv-loop μ-loop
-f64-at-requires c κs = omega arith
-
 from-floor-to-ceiling-requires : tie.Need-from-floor-to-ceiling-requires Inv-loop μ-loop
 from-floor-to-ceiling-requires c κs = tt
 
 add-here : tie.Need-add-here Inv-loop μ-loop
 add-here c = let good = c .before .before .before .before .before .before .good in omega arith
-
-sub-left : tie.Need-sub-left Inv-loop μ-loop
-sub-left c = omega arith
-
-loop-less : tie.Need-loop-less Inv-loop μ-loop
-loop-less c = omega arith
 
 loop-again : tie.Need-loop-again Inv-loop μ-loop
 loop-again c =
@@ -64,11 +55,11 @@ row-in-bounds-spec =
     Inv-loop
     μ-loop
     loop-holds
-    f64-at-requires
+    (λ c κs. omega arith)
     from-floor-to-ceiling-requires
     add-here
-    sub-left
-    loop-less
+    (λ c. omega arith)
+    (λ c. omega arith)
     loop-again
     returns
     returns-2)

@@ -10,12 +10,6 @@ use Rattle.fields.proofs.Bytes.{whole-at}
 use Rattle.rows.proofs.reading.row_sound.Statement.{statement}
 use Rattle.rows.proofs.reading.row_sound.Tie as tie
 
-mul-field-here : tie.Need-mul-field-here
-mul-field-here c = search needs
-
-field-here-requires : tie.Need-field-here-requires
-field-here-requires c κs = search needs
-
 add-row-in-bounds : tie.Need-add-row-in-bounds
 add-row-in-bounds c =
     let a = c .before .before .before .args in
@@ -40,8 +34,8 @@ pub row-sound-spec : {M : Type 1} → statement M
 row-sound-spec =
     tie.close
     (tie.spec
-    mul-field-here
-    field-here-requires
+    (λ c. search needs)
+    (λ c κs. search needs)
     add-row-in-bounds
     row-in-bounds-requires
     returns

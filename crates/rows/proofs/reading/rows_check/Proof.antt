@@ -39,12 +39,6 @@ add-here-2 c =
     let w = whole-at rowTag (rowLength (a .width)) (l .here) (now (a .bytes)) (both-l _ _ (sym (c .before .row-sound .ensures) ∙ c .if1 .taken)) in
     omega arith
 
-sub-left : tie.Need-sub-left Inv-loop μ-loop
-sub-left c = omega arith
-
-loop-less : tie.Need-loop-less Inv-loop μ-loop
-loop-less c = omega arith
-
 loop-again : tie.Need-loop-again Inv-loop μ-loop
 loop-again c =
     let a = c .before .before .before .before .before .args in
@@ -82,8 +76,8 @@ rows-check-spec =
     mul-here
     add-here
     add-here-2
-    sub-left
-    loop-less
+    (λ c. omega arith)
+    (λ c. omega arith)
     loop-again
     record-broken-requires
     returns

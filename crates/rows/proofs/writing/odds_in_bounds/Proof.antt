@@ -21,23 +21,11 @@ abbrev μ-loop : tie.MeasureT-loop
 loop-holds : tie.Need-loop-holds Inv-loop μ-loop
 loop-holds c = (c .before .pre, refl)
 
-mul-from-floor-to-ceiling : tie.Need-mul-from-floor-to-ceiling Inv-loop μ-loop
-mul-from-floor-to-ceiling c = search needs
-
-shared-slice-read-from-floor-to-ceiling : tie.Need-shared-slice-read-from-floor-to-ceiling Inv-loop μ-loop
-shared-slice-read-from-floor-to-ceiling c = omega arith
-
 from-floor-to-ceiling-requires : tie.Need-from-floor-to-ceiling-requires Inv-loop μ-loop
 from-floor-to-ceiling-requires c κs = tt
 
 add-place : tie.Need-add-place Inv-loop μ-loop
 add-place c = let good = c .before .before .before .before .before .before .good in omega arith
-
-sub-left : tie.Need-sub-left Inv-loop μ-loop
-sub-left c = omega arith
-
-loop-less : tie.Need-loop-less Inv-loop μ-loop
-loop-less c = omega arith
 
 loop-again : tie.Need-loop-again Inv-loop μ-loop
 loop-again c =
@@ -70,12 +58,12 @@ odds-in-bounds-spec =
     Inv-loop
     μ-loop
     loop-holds
-    mul-from-floor-to-ceiling
-    shared-slice-read-from-floor-to-ceiling
+    (λ c. search needs)
+    (λ c. omega arith)
     from-floor-to-ceiling-requires
     add-place
-    sub-left
-    loop-less
+    (λ c. omega arith)
+    (λ c. omega arith)
     loop-again
     returns
     returns-2)

@@ -49,12 +49,6 @@ add-place c =
     let one = one-of (c .before .before .before .loop .left) (c .before .before .before .before .before .args .width) (c .before .before .loop-test .taken) in
     omega arith
 
-sub-left : tie.Need-sub-left Inv-loop μ-loop
-sub-left c = omega arith
-
-loop-less : tie.Need-loop-less Inv-loop μ-loop
-loop-less c = omega arith
-
 loop-again : tie.Need-loop-again Inv-loop μ-loop
 loop-again c =
     let a = c .before .before .before .before .before .args in
@@ -99,8 +93,8 @@ rows-writable-spec =
     add-here
     add-here-2
     add-place
-    sub-left
-    loop-less
+    (λ c. omega arith)
+    (λ c. omega arith)
     loop-again
     record-broken-requires
     returns

@@ -14,21 +14,6 @@ use Rattle.fields.proofs.Floats.{length-part, length-float-bytes, field-of}
 use Rattle.rows.proofs.writing.write_row.Statement.{statement}
 use Rattle.rows.proofs.writing.write_row.Tie as tie
 
-mul-put-field : tie.Need-mul-put-field
-mul-put-field c = search needs
-
-put-field-requires : tie.Need-put-field-requires
-put-field-requires c κs = search needs
-
-add-put-floats : tie.Need-add-put-floats
-add-put-floats c = search needs
-
-put-floats-requires : tie.Need-put-floats-requires
-put-floats-requires c κs = search needs
-
-same-length : tie.Need-same-length
-same-length c = search needs
-
 returns : tie.Need-returns
 returns c =
     let a = c .before .before .before .before .before .before .before .before .before .before .args in
@@ -43,9 +28,9 @@ pub write-row-spec : {M : Type 1} → statement M
 write-row-spec =
     tie.close
     (tie.spec
-    mul-put-field
-    put-field-requires
-    add-put-floats
-    put-floats-requires
-    same-length
+    (λ c. search needs)
+    (λ c κs. search needs)
+    (λ c. search needs)
+    (λ c κs. search needs)
+    (λ c. search needs)
     returns)
