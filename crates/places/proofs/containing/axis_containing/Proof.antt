@@ -8,15 +8,6 @@ use Rattle.places.proofs.ByAxis.{not-finite, has-a-cell, has-none}
 use Rattle.places.proofs.containing.axis_containing.Statement.{statement}
 use Rattle.places.proofs.containing.axis_containing.Tie as tie
 
-is-finite-requires : tie.Need-is-finite-requires
-is-finite-requires c κs = search needs
-
-cell-of-requires : tie.Need-cell-of-requires
-cell-of-requires c κs = search needs
-
-within-requires : tie.Need-within-requires
-within-requires c κs = search needs
-
 returns : tie.Need-returns
 returns c =
     let i = c .before .before in
@@ -35,4 +26,4 @@ returns-3 c = not-finite binary64 _ _ _ _ (c .before .is-finite .ensures) (c .if
 pub axis-containing-spec : {M : Type 1} → statement M
 axis-containing-spec =
     tie.close
-    (tie.spec is-finite-requires cell-of-requires within-requires returns returns-2 returns-3)
+    (tie.spec (λ c κs. search needs) (λ c κs. search needs) (λ c κs. search needs) returns returns-2 returns-3)

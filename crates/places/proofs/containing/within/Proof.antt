@@ -7,9 +7,6 @@ use Rattle.places.proofs.ByAxis.{from-zero-on, under-zero}
 use Rattle.places.proofs.containing.within.Statement.{statement}
 use Rattle.places.proofs.containing.within.Tie as tie
 
-nearest-u64-to-f64-requires : tie.Need-nearest-u64-to-f64-requires
-nearest-u64-to-f64-requires c κs = search needs
-
 returns : tie.Need-returns
 unfolding numberF
 returns c = from-zero-on binary64 _ _ (zero-is binary64) (c .nearest-u64-to-f64 .ensures) (c .before .if1 .taken)
@@ -18,4 +15,4 @@ returns-2 : tie.Need-returns-2
 returns-2 c = under-zero binary64 _ _ (zero-is binary64) (c .if1 .left)
 
 pub within-spec : {M : Type 1} → statement M
-within-spec = tie.close (tie.spec nearest-u64-to-f64-requires returns returns-2)
+within-spec = tie.close (tie.spec (λ c κs. search needs) returns returns-2)

@@ -15,9 +15,6 @@ use Rattle.places.proofs.index.axis_at.Tie as tie
 back : (s : tie.Start) → toZ w64 (ofZ w64 (s .args .index)) ≡ s .args .index
 back s = toZ-ofZ w64 (s .args .index) (s .fits .index)
 
-is-off-requires : tie.Need-is-off-requires
-is-off-requires c κs = search needs
-
 returns : tie.Need-returns
 returns c =
     let s = c .before .before in
@@ -38,4 +35,4 @@ returns-2 c =
     rw (back s, on-is (s .args .extent) (s .args .index) on .1) refl
 
 pub axis-at-spec : {M : Type 1} → statement M
-axis-at-spec = tie.close (tie.spec is-off-requires returns cast-t7 returns-2)
+axis-at-spec = tie.close (tie.spec (λ c κs. search needs) returns cast-t7 returns-2)

@@ -13,27 +13,6 @@ use Rattle.places.specs.Places.{alongOf}
 use Rattle.places.proofs.index.translate_to_index2.Statement.{statement}
 use Rattle.places.proofs.index.translate_to_index2.Tie as tie
 
-off-axes2-requires : tie.Need-off-axes2-requires
-off-axes2-requires c κs = search needs
-
-axis-at-requires : tie.Need-axis-at-requires
-axis-at-requires c κs = search needs
-
-enum-known-r : tie.Need-enum-known-r
-enum-known-r c = search needs
-
-enum-known-x : tie.Need-enum-known-x
-enum-known-x c = search needs
-
-axis-at-requires-2 : tie.Need-axis-at-requires-2
-axis-at-requires-2 c κs = search needs
-
-enum-known-r-2 : tie.Need-enum-known-r-2
-enum-known-r-2 c = search needs
-
-enum-known-y : tie.Need-enum-known-y
-enum-known-y c = search needs
-
 -- the answer of one axis, by the rules
 abbrev axis : tie.Start → ℕ → ℕ → ℤ → Answer ℕ
 axis s k e i = orOff (offAxes (extents2 (s .args .extents)) (cell2 (s .args .cell))) k e i (along e i)
@@ -85,13 +64,13 @@ pub translate-to-index2-spec : {M : Type 1} → statement M
 translate-to-index2-spec =
     tie.close
     (tie.spec
-    off-axes2-requires
-    axis-at-requires
-    enum-known-r
-    enum-known-x
-    axis-at-requires-2
-    enum-known-r-2
-    enum-known-y
+    (λ c κs. search needs)
+    (λ c κs. search needs)
+    (λ c. search needs)
+    (λ c. search needs)
+    (λ c κs. search needs)
+    (λ c. search needs)
+    (λ c. search needs)
     place-within2-requires
     returns
     returns-2

@@ -13,36 +13,6 @@ use Rattle.places.specs.Places.{alongOf}
 use Rattle.places.proofs.index.translate_to_index3.Statement.{statement}
 use Rattle.places.proofs.index.translate_to_index3.Tie as tie
 
-off-axes3-requires : tie.Need-off-axes3-requires
-off-axes3-requires c κs = search needs
-
-axis-at-requires : tie.Need-axis-at-requires
-axis-at-requires c κs = search needs
-
-enum-known-r : tie.Need-enum-known-r
-enum-known-r c = search needs
-
-enum-known-x : tie.Need-enum-known-x
-enum-known-x c = search needs
-
-axis-at-requires-2 : tie.Need-axis-at-requires-2
-axis-at-requires-2 c κs = search needs
-
-enum-known-r-2 : tie.Need-enum-known-r-2
-enum-known-r-2 c = search needs
-
-enum-known-y : tie.Need-enum-known-y
-enum-known-y c = search needs
-
-axis-at-requires-3 : tie.Need-axis-at-requires-3
-axis-at-requires-3 c κs = search needs
-
-enum-known-r-3 : tie.Need-enum-known-r-3
-enum-known-r-3 c = search needs
-
-enum-known-z : tie.Need-enum-known-z
-enum-known-z c = search needs
-
 -- the answer of one axis, by the rules
 abbrev axis : tie.Start → ℕ → ℕ → ℤ → Answer ℕ
 axis s k e i = orOff (offAxes (extents3 (s .args .extents)) (cell3 (s .args .cell))) k e i (along e i)
@@ -110,16 +80,16 @@ pub translate-to-index3-spec : {M : Type 1} → statement M
 translate-to-index3-spec =
     tie.close
     (tie.spec
-    off-axes3-requires
-    axis-at-requires
-    enum-known-r
-    enum-known-x
-    axis-at-requires-2
-    enum-known-r-2
-    enum-known-y
-    axis-at-requires-3
-    enum-known-r-3
-    enum-known-z
+    (λ c κs. search needs)
+    (λ c κs. search needs)
+    (λ c. search needs)
+    (λ c. search needs)
+    (λ c κs. search needs)
+    (λ c. search needs)
+    (λ c. search needs)
+    (λ c κs. search needs)
+    (λ c. search needs)
+    (λ c. search needs)
     place-within3-requires
     returns
     returns-2

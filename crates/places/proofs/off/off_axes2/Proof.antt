@@ -9,15 +9,6 @@ use Rattle.places.proofs.Sets.{bit-most}
 use Rattle.places.proofs.off.off_axes2.Statement.{statement}
 use Rattle.places.proofs.off.off_axes2.Tie as tie
 
-is-off-requires : tie.Need-is-off-requires
-is-off-requires c κs = search needs
-
-with-bit-requires : tie.Need-with-bit-requires
-with-bit-requires c κs = omega arith
-
-is-off-requires-2 : tie.Need-is-off-requires-2
-is-off-requires-2 c κs = search needs
-
 with-bit-requires-2 : tie.Need-with-bit-requires-2
 with-bit-requires-2 c κs = rw (c .before .before .with-bit .ensures) (omega (arith, bit-most (c .before .before .before .is-off .result) 0))
 
@@ -34,4 +25,4 @@ returns c = simp (c .with-bit2 .ensures, off-x (c .before), c .before .before .b
 pub off-axes2-spec : {M : Type 1} → statement M
 off-axes2-spec =
     tie.close
-    (tie.spec is-off-requires with-bit-requires is-off-requires-2 with-bit-requires-2 returns)
+    (tie.spec (λ c κs. search needs) (λ c κs. omega arith) (λ c κs. search needs) with-bit-requires-2 returns)

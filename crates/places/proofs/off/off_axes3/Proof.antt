@@ -10,24 +10,12 @@ use Rattle.places.proofs.Sets.{bit-most}
 use Rattle.places.proofs.off.off_axes3.Statement.{statement}
 use Rattle.places.proofs.off.off_axes3.Tie as tie
 
-is-off-requires : tie.Need-is-off-requires
-is-off-requires c κs = search needs
-
-with-bit-requires : tie.Need-with-bit-requires
-with-bit-requires c κs = omega arith
-
-is-off-requires-2 : tie.Need-is-off-requires-2
-is-off-requires-2 c κs = search needs
-
 -- the set of the last axis alone
 last : (c : tie.After-with-bit) → c .with-bit .result ≤ 1
 last c = rw (c .with-bit .ensures) (omega (arith, bit-most (c .before .is-off .result) 0))
 
 with-bit-requires-2 : tie.Need-with-bit-requires-2
 with-bit-requires-2 c κs = omega (arith, last (c .before .before))
-
-is-off-requires-3 : tie.Need-is-off-requires-3
-is-off-requires-3 c κs = search needs
 
 with-bit-requires-3 : tie.Need-with-bit-requires-3
 with-bit-requires-3 c κs =
@@ -59,4 +47,11 @@ returns c =
 pub off-axes3-spec : {M : Type 1} → statement M
 off-axes3-spec =
     tie.close
-    (tie.spec is-off-requires with-bit-requires is-off-requires-2 with-bit-requires-2 is-off-requires-3 with-bit-requires-3 returns)
+    (tie.spec
+    (λ c κs. search needs)
+    (λ c κs. omega arith)
+    (λ c κs. search needs)
+    with-bit-requires-2
+    (λ c κs. search needs)
+    with-bit-requires-3
+    returns)

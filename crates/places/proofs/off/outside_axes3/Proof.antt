@@ -8,9 +8,6 @@ use Rattle.places.proofs.ByAxis.{few-axes}
 use Rattle.places.proofs.off.outside_axes3.Statement.{statement}
 use Rattle.places.proofs.off.outside_axes3.Tie as tie
 
-with-coordinate-requires : tie.Need-with-coordinate-requires
-with-coordinate-requires c κs = omega arith
-
 with-coordinate-requires-2 : tie.Need-with-coordinate-requires-2
 with-coordinate-requires-2 c κs = let a = c .before .args in omega (arith, few-axes binary64 (a .extents .z) (a .point .z) 0 (c .with-coordinate .ensures))
 
@@ -27,4 +24,4 @@ returns c = simp (c .with-coordinate3 .ensures, c .before .with-coordinate2 .ens
 pub outside-axes3-spec : {M : Type 1} → statement M
 outside-axes3-spec =
     tie.close
-    (tie.spec with-coordinate-requires with-coordinate-requires-2 with-coordinate-requires-3 returns)
+    (tie.spec (λ c κs. omega arith) with-coordinate-requires-2 with-coordinate-requires-3 returns)

@@ -5,12 +5,6 @@ use Rattle.places.proofs.ByAxis.{with-its-bit, no-axis}
 use Rattle.places.proofs.off.with_coordinate.Statement.{statement}
 use Rattle.places.proofs.off.with_coordinate.Tie as tie
 
-is-finite-requires : tie.Need-is-finite-requires
-is-finite-requires c κs = search needs
-
-within-requires : tie.Need-within-requires
-within-requires c κs = search needs
-
 with-bit-requires : tie.Need-with-bit-requires
 with-bit-requires c κs = c .before .before .before .pre
 
@@ -23,4 +17,4 @@ returns-2 c = let a = c .before .before .args in no-axis binary64 (a .extent) (a
 pub with-coordinate-spec : {M : Type 1} → statement M
 with-coordinate-spec =
     tie.close
-    (tie.spec is-finite-requires within-requires with-bit-requires returns returns-2)
+    (tie.spec (λ c κs. search needs) (λ c κs. search needs) with-bit-requires returns returns-2)
