@@ -6,17 +6,8 @@ use Rattle.bresenham.proofs.AxisLaws.{axis-is}
 use Rattle.bresenham.proofs.axis.axis_of.Statement.{statement}
 use Rattle.bresenham.proofs.axis.axis_of.Tie as tie
 
-delta-requires : tie.Need-delta-requires
-delta-requires c κs = search needs
-
-increment-requires : tie.Need-increment-requires
-increment-requires c κs = search needs
-
-step-to-requires : tie.Need-step-to-requires
-step-to-requires c κs = search needs
-
 returns : tie.Need-returns
 returns c = axis-is binary64 _ _ _ (zero-is binary64) (c .before .before .delta .ensures) (c .before .increment .ensures) (c .step-to .ensures)
 
 pub axis-of-spec : {M : Type 1} → statement M
-axis-of-spec = tie.close (tie.spec delta-requires increment-requires step-to-requires returns)
+axis-of-spec = tie.close (tie.spec (λ c κs. search needs) (λ c κs. search needs) (λ c κs. search needs) returns)

@@ -6,11 +6,8 @@ use Rattle.bresenham.proofs.AxisLaws.{yielded}
 use Rattle.bresenham.proofs.axis.cells_yielded.Statement.{statement}
 use Rattle.bresenham.proofs.axis.cells_yielded.Tie as tie
 
-count-of-requires : tie.Need-count-of-requires
-count-of-requires c κs = search needs
-
 returns : tie.Need-returns
 returns c = yielded binary64 _ (one-is binary64) (c .count-of .ensures)
 
 pub cells-yielded-spec : {M : Type 1} → statement M
-cells-yielded-spec = tie.close (tie.spec count-of-requires returns)
+cells-yielded-spec = tie.close (tie.spec (λ c κs. search needs) returns)

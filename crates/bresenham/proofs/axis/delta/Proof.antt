@@ -6,14 +6,8 @@ use Rattle.bresenham.proofs.Laws.{delta-is}
 use Rattle.bresenham.proofs.axis.delta.Statement.{statement}
 use Rattle.bresenham.proofs.axis.delta.Tie as tie
 
-chosen-requires : tie.Need-chosen-requires
-chosen-requires c κs = search needs
-
-chosen-requires-2 : tie.Need-chosen-requires-2
-chosen-requires-2 c κs = search needs
-
 returns : tie.Need-returns
 returns c = delta-is binary64 _ _ (zero-is binary64) (c .before .chosen .ensures) (c .chosen2 .ensures)
 
 pub delta-spec : {M : Type 1} → statement M
-delta-spec = tie.close (tie.spec chosen-requires chosen-requires-2 returns)
+delta-spec = tie.close (tie.spec (λ c κs. search needs) (λ c κs. search needs) returns)

@@ -7,9 +7,6 @@ use Rattle.laws.specs.Following.{followed-up, followed-down}
 use Rattle.bresenham.proofs.following.cell_beside.Statement.{statement}
 use Rattle.bresenham.proofs.following.cell_beside.Tie as tie
 
-add-result : tie.Need-add-result
-add-result c = search needs
-
 returns : tie.Need-returns
 returns c =
     let s = c .before in
@@ -18,13 +15,10 @@ returns c =
 returns-2 : tie.Need-returns-2
 returns-2 c = λ h. absurd (omega arith)
 
-sub-result : tie.Need-sub-result
-sub-result c = search needs
-
 returns-3 : tie.Need-returns-3
 returns-3 c =
     let s = c .before .before in
     followed-down binary64 (s .args .cell) (s .args .current) (s .args .step) (s .pre .0) (s .pre .1 .0) (s .pre .1 .1) (rw (← zero-is binary64) (c .before .if1 .left)) (c .if2 .left)
 
 pub cell-beside-spec : {M : Type 1} → statement M
-cell-beside-spec = tie.close (tie.spec add-result returns returns-2 sub-result returns-3)
+cell-beside-spec = tie.close (tie.spec (λ c. search needs) returns returns-2 (λ c. search needs) returns-3)

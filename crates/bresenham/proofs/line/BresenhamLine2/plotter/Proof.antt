@@ -11,24 +11,12 @@ use Rattle.laws.specs.Literals.{zero-code, zero-is}
 use Rattle.bresenham.proofs.line.BresenhamLine2.plotter.Statement.{statement}
 use Rattle.bresenham.proofs.line.BresenhamLine2.plotter.Tie as tie
 
-delta-requires : tie.Need-delta-requires
-delta-requires c κs = search needs
-
-delta-requires-2 : tie.Need-delta-requires-2
-delta-requires-2 c κs = search needs
-
-is-finite-requires : tie.Need-is-finite-requires
-is-finite-requires c κs = search needs
-
 returns : tie.Need-returns
 returns c =
     let d = c .before .before in
     let a = d .before .before .args in
     refuses binary64 (point2 (a .start)) (point2 (a .end))
     (stops binary64 _ _ _ _ (d .before .delta .ensures) (c .before .is-finite .ensures) (c .if1 .taken))
-
-is-finite-requires-2 : tie.Need-is-finite-requires-2
-is-finite-requires-2 c κs = search needs
 
 returns-2 : tie.Need-returns-2
 returns-2 c =
@@ -38,15 +26,6 @@ returns-2 c =
     refuses binary64 (point2 (a .start)) (point2 (a .end))
     (passes binary64 _ _ _ _ (d .before .delta .ensures) (x .before .is-finite .ensures) (x .if1 .left)
     (stops binary64 _ _ _ _ (d .delta2 .ensures) (c .before .is-finite2 .ensures) (c .if2 .taken)))
-
-larger-requires : tie.Need-larger-requires
-larger-requires c κs = search needs
-
-larger-requires-2 : tie.Need-larger-requires-2
-larger-requires-2 c κs = search needs
-
-between-requires : tie.Need-between-requires
-between-requires c κs = search needs
 
 returns-3 : tie.Need-returns-3
 returns-3 c =
@@ -68,13 +47,13 @@ pub plotter-spec : {M : Type 1} → statement M
 plotter-spec =
     tie.close
     (tie.spec
-    delta-requires
-    delta-requires-2
-    is-finite-requires
+    (λ c κs. search needs)
+    (λ c κs. search needs)
+    (λ c κs. search needs)
     returns
-    is-finite-requires-2
+    (λ c κs. search needs)
     returns-2
-    larger-requires
-    larger-requires-2
-    between-requires
+    (λ c κs. search needs)
+    (λ c κs. search needs)
+    (λ c κs. search needs)
     returns-3)

@@ -5,15 +5,6 @@ use Rattle.bresenham.proofs.Laws.{held}
 use Rattle.bresenham.proofs.line.BresenhamLine3.last_cell.Statement.{statement}
 use Rattle.bresenham.proofs.line.BresenhamLine3.last_cell.Tie as tie
 
-cell-of-requires : tie.Need-cell-of-requires
-cell-of-requires c κs = search needs
-
-cell-of-requires-2 : tie.Need-cell-of-requires-2
-cell-of-requires-2 c κs = search needs
-
-cell-of-requires-3 : tie.Need-cell-of-requires-3
-cell-of-requires-3 c κs = search needs
-
 returns : tie.Need-returns
 unfolding truncatedPoint
 returns c =
@@ -26,7 +17,7 @@ pub last-cell-spec : {M : Type 1} → statement M
 last-cell-spec =
     tie.close
     (tie.spec
-    cell-of-requires
-    cell-of-requires-2
-    cell-of-requires-3
+    (λ c κs. search needs)
+    (λ c κs. search needs)
+    (λ c κs. search needs)
     returns)

@@ -14,16 +14,10 @@ returns c = over binary64 (line3 (c .before .args .self)) (c .if1 .taken)
 returns-2 : tie.Need-returns-2
 returns-2 c = strange binary64 (line3 (c .before .before .args .self)) (c .before .if1 .left) (omega arith)
 
-last-step-requires : tie.Need-last-step-requires
-last-step-requires c κs = search needs
-
 returns-3 : tie.Need-returns-3
 returns-3 c =
     let l = line3 (c .before .before .before .before .args .self) in
     c .last-step .ensures ∙ ends binary64 l (omega arith) (c .before .if3 .taken)
-
-earlier-step-requires : tie.Need-earlier-step-requires
-earlier-step-requires c κs = search needs
 
 returns-4 : tie.Need-returns-4
 returns-4 c =
@@ -31,4 +25,4 @@ returns-4 c =
     c .earlier-step .ensures ∙ goes binary64 l (omega arith) (c .before .before .before .if1 .left) (c .before .if3 .left)
 
 pub next-spec : {M : Type 1} → statement M
-next-spec = tie.close (tie.spec returns returns-2 last-step-requires returns-3 earlier-step-requires returns-4)
+next-spec = tie.close (tie.spec returns returns-2 (λ c κs. search needs) returns-3 (λ c κs. search needs) returns-4)

@@ -11,27 +11,12 @@ use Rattle.laws.specs.Literals.{zero-code, zero-is}
 use Rattle.bresenham.proofs.line.BresenhamLine3.plotter.Statement.{statement}
 use Rattle.bresenham.proofs.line.BresenhamLine3.plotter.Tie as tie
 
-delta-requires : tie.Need-delta-requires
-delta-requires c κs = search needs
-
-delta-requires-2 : tie.Need-delta-requires-2
-delta-requires-2 c κs = search needs
-
-delta-requires-3 : tie.Need-delta-requires-3
-delta-requires-3 c κs = search needs
-
-is-finite-requires : tie.Need-is-finite-requires
-is-finite-requires c κs = search needs
-
 returns : tie.Need-returns
 returns c =
     let d = c .before .before in
     let a = d .before .before .before .args in
     refuses binary64 (point3 (a .start)) (point3 (a .end))
     (stops binary64 _ _ _ _ (d .before .before .delta .ensures) (c .before .is-finite .ensures) (c .if1 .taken))
-
-is-finite-requires-2 : tie.Need-is-finite-requires-2
-is-finite-requires-2 c κs = search needs
 
 returns-2 : tie.Need-returns-2
 returns-2 c =
@@ -41,9 +26,6 @@ returns-2 c =
     refuses binary64 (point3 (a .start)) (point3 (a .end))
     (passes binary64 _ _ _ _ (d .before .before .delta .ensures) (x .before .is-finite .ensures) (x .if1 .left)
     (stops binary64 _ _ _ _ (d .before .delta2 .ensures) (c .before .is-finite2 .ensures) (c .if2 .taken)))
-
-is-finite-requires-3 : tie.Need-is-finite-requires-3
-is-finite-requires-3 c κs = search needs
 
 returns-3 : tie.Need-returns-3
 returns-3 c =
@@ -55,18 +37,6 @@ returns-3 c =
     (passes binary64 _ _ _ _ (d .before .before .delta .ensures) (x .before .is-finite .ensures) (x .if1 .left)
     (passes binary64 _ _ _ _ (d .before .delta2 .ensures) (y .before .is-finite2 .ensures) (y .if2 .left)
     (stops binary64 _ _ _ _ (d .delta3 .ensures) (c .before .is-finite3 .ensures) (c .if3 .taken))))
-
-larger-requires : tie.Need-larger-requires
-larger-requires c κs = search needs
-
-larger-requires-2 : tie.Need-larger-requires-2
-larger-requires-2 c κs = search needs
-
-larger-requires-3 : tie.Need-larger-requires-3
-larger-requires-3 c κs = search needs
-
-between-requires : tie.Need-between-requires
-between-requires c κs = search needs
 
 returns-4 : tie.Need-returns-4
 returns-4 c =
@@ -91,17 +61,17 @@ pub plotter-spec : {M : Type 1} → statement M
 plotter-spec =
     tie.close
     (tie.spec
-    delta-requires
-    delta-requires-2
-    delta-requires-3
-    is-finite-requires
+    (λ c κs. search needs)
+    (λ c κs. search needs)
+    (λ c κs. search needs)
+    (λ c κs. search needs)
     returns
-    is-finite-requires-2
+    (λ c κs. search needs)
     returns-2
-    is-finite-requires-3
+    (λ c κs. search needs)
     returns-3
-    larger-requires
-    larger-requires-2
-    larger-requires-3
-    between-requires
+    (λ c κs. search needs)
+    (λ c κs. search needs)
+    (λ c κs. search needs)
+    (λ c κs. search needs)
     returns-4)
