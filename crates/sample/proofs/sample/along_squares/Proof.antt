@@ -5,14 +5,8 @@ use Rattle.sample.proofs.Weighing.{along-squares}
 use Rattle.sample.proofs.sample.along_squares.Statement.{statement}
 use Rattle.sample.proofs.sample.along_squares.Tie as tie
 
-along-edges-requires : tie.Need-along-edges-requires
-along-edges-requires c κs = search needs
-
-along-edges-requires-2 : tie.Need-along-edges-requires-2
-along-edges-requires-2 c κs = search needs
-
 returns : tie.Need-returns
 returns c = along-squares binary64 _ _ (c .before .along-edges .ensures) (c .along-edges2 .ensures)
 
 pub along-squares-spec : {M : Type 1} → statement M
-along-squares-spec = tie.close (tie.spec along-edges-requires along-edges-requires-2 returns)
+along-squares-spec = tie.close (tie.spec (λ c κs. search needs) (λ c κs. search needs) returns)

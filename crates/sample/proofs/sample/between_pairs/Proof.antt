@@ -5,14 +5,8 @@ use Rattle.sample.proofs.Weighing.{between-pairs}
 use Rattle.sample.proofs.sample.between_pairs.Statement.{statement}
 use Rattle.sample.proofs.sample.between_pairs.Tie as tie
 
-between-edges-requires : tie.Need-between-edges-requires
-between-edges-requires c κs = search needs
-
-between-edges-requires-2 : tie.Need-between-edges-requires-2
-between-edges-requires-2 c κs = search needs
-
 returns : tie.Need-returns
 returns c = between-pairs binary64 _ _ _ _ (c .before .between-edges .ensures) (c .between-edges2 .ensures)
 
 pub between-pairs-spec : {M : Type 1} → statement M
-between-pairs-spec = tie.close (tie.spec between-edges-requires between-edges-requires-2 returns)
+between-pairs-spec = tie.close (tie.spec (λ c κs. search needs) (λ c κs. search needs) returns)

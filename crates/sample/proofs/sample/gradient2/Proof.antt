@@ -5,18 +5,6 @@ use Rattle.sample.proofs.Weighing.{gradient-two}
 use Rattle.sample.proofs.sample.gradient2.Statement.{statement}
 use Rattle.sample.proofs.sample.gradient2.Tie as tie
 
-along-edges-requires : tie.Need-along-edges-requires
-along-edges-requires c κs = search needs
-
-value1-requires : tie.Need-value1-requires
-value1-requires c κs = search needs
-
-between-edges-requires : tie.Need-between-edges-requires
-between-edges-requires c κs = search needs
-
-value1-requires-2 : tie.Need-value1-requires-2
-value1-requires-2 c κs = search needs
-
 returns : tie.Need-returns
 returns c =
     gradient-two binary64 _ _ _ (c .before .before .before .along-edges .ensures) (c .before .before .value1 .ensures) (c .before .between-edges .ensures) (c .value12 .ensures)
@@ -25,8 +13,8 @@ pub gradient2-spec : {M : Type 1} → statement M
 gradient2-spec =
     tie.close
     (tie.spec
-    along-edges-requires
-    value1-requires
-    between-edges-requires
-    value1-requires-2
+    (λ c κs. search needs)
+    (λ c κs. search needs)
+    (λ c κs. search needs)
+    (λ c κs. search needs)
     returns)

@@ -5,24 +5,6 @@ use Rattle.sample.proofs.Weighing.{gradient-three}
 use Rattle.sample.proofs.sample.gradient3.Statement.{statement}
 use Rattle.sample.proofs.sample.gradient3.Tie as tie
 
-along-squares-requires : tie.Need-along-squares-requires
-along-squares-requires c κs = search needs
-
-value2-requires : tie.Need-value2-requires
-value2-requires c κs = search needs
-
-between-pairs-requires : tie.Need-between-pairs-requires
-between-pairs-requires c κs = search needs
-
-value2-requires-2 : tie.Need-value2-requires-2
-value2-requires-2 c κs = search needs
-
-between-pairs-requires-2 : tie.Need-between-pairs-requires-2
-between-pairs-requires-2 c κs = search needs
-
-value2-requires-3 : tie.Need-value2-requires-3
-value2-requires-3 c κs = search needs
-
 returns : tie.Need-returns
 returns c =
     let b = c .before .before .before in
@@ -33,10 +15,10 @@ pub gradient3-spec : {M : Type 1} → statement M
 gradient3-spec =
     tie.close
     (tie.spec
-    along-squares-requires
-    value2-requires
-    between-pairs-requires
-    value2-requires-2
-    between-pairs-requires-2
-    value2-requires-3
+    (λ c κs. search needs)
+    (λ c κs. search needs)
+    (λ c κs. search needs)
+    (λ c κs. search needs)
+    (λ c κs. search needs)
+    (λ c κs. search needs)
     returns)

@@ -17,12 +17,6 @@ add-base c = let h = rw (highest-two _ _ _ _) at (c .before .before .before .bef
 square-at-requires : tie.Need-square-at-requires
 square-at-requires c κs = let h = rw (highest-two _ _ _ _) at (c .before .before .before .before .before .pre) in omega arith
 
-value2-requires : tie.Need-value2-requires
-value2-requires c κs = search needs
-
-gradient2-requires : tie.Need-gradient2-requires
-gradient2-requires c κs = search needs
-
 returns : tie.Need-returns
 unfolding gradientOver
 returns c =
@@ -32,4 +26,4 @@ returns c =
 pub sample-at2-spec : {M : Type 1} → statement M
 sample-at2-spec =
     tie.close
-    (tie.spec mul-base add-base square-at-requires value2-requires gradient2-requires returns)
+    (tie.spec mul-base add-base square-at-requires (λ c κs. search needs) (λ c κs. search needs) returns)

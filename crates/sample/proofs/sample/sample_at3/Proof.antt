@@ -26,12 +26,6 @@ add-base-2 c = let h = rw (highest-three _ _ _ _ _ _) at (c .before .before .bef
 cube-at-requires : tie.Need-cube-at-requires
 cube-at-requires c κs = let h = rw (highest-three _ _ _ _ _ _) at (c .before .before .before .before .before .before .before .before .pre) in omega arith
 
-value3-requires : tie.Need-value3-requires
-value3-requires c κs = search needs
-
-gradient3-requires : tie.Need-gradient3-requires
-gradient3-requires c κs = search needs
-
 returns : tie.Need-returns
 unfolding gradientOver
 returns c =
@@ -49,6 +43,6 @@ sample-at3-spec =
     mul-base-2
     add-base-2
     cube-at-requires
-    value3-requires
-    gradient3-requires
+    (λ c κs. search needs)
+    (λ c κs. search needs)
     returns)

@@ -14,15 +14,6 @@ found : (c : tie.After-s) → let s = c .before .before .before .before in
     stencil binary64 (extents2 (s .args .extents)) (point2 (s .args .point)) ≡ some (stencil2 (c .s .given .0 .0))
 found c = sym (c .before .before .stencil-containing2 .ensures) ∙ ap stencilled2 (c .s .given .1)
 
-stencil-containing2-requires : tie.Need-stencil-containing2-requires
-stencil-containing2-requires c κs = search needs
-
-enum-known-s : tie.Need-enum-known-s
-enum-known-s c = search needs
-
-enum-told : tie.Need-enum-told
-enum-told c = search needs
-
 returns : tie.Need-returns
 unfolding sample
 returns c = rw (sym (c .before .before .stencil-containing2 .ensures) ∙ ap stencilled2 (c .enum-told .given .1))
@@ -40,9 +31,9 @@ pub sample-log-odds2-spec : {M : Type 1} → statement M
 sample-log-odds2-spec =
     tie.close
     (tie.spec
-    stencil-containing2-requires
-    enum-known-s
-    enum-told
+    (λ c κs. search needs)
+    (λ c. search needs)
+    (λ c. search needs)
     returns
     sample-at2-requires
     returns-2)

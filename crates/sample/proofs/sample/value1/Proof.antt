@@ -6,14 +6,8 @@ use Rattle.sample.proofs.Weighing.{value-one}
 use Rattle.sample.proofs.sample.value1.Statement.{statement}
 use Rattle.sample.proofs.sample.value1.Tie as tie
 
-edge-weights-requires : tie.Need-edge-weights-requires
-edge-weights-requires c κs = search needs
-
-edge-sum-requires : tie.Need-edge-sum-requires
-edge-sum-requires c κs = search needs
-
 returns : tie.Need-returns
 returns c = value-one binary64 _ _ (zero-is binary64) (c .before .edge-weights .ensures) (c .edge-sum .ensures)
 
 pub value1-spec : {M : Type 1} → statement M
-value1-spec = tie.close (tie.spec edge-weights-requires edge-sum-requires returns)
+value1-spec = tie.close (tie.spec (λ c κs. search needs) (λ c κs. search needs) returns)

@@ -6,14 +6,8 @@ use Rattle.sample.proofs.Weighing.{value-two}
 use Rattle.sample.proofs.sample.value2.Statement.{statement}
 use Rattle.sample.proofs.sample.value2.Tie as tie
 
-square-weights-requires : tie.Need-square-weights-requires
-square-weights-requires c κs = search needs
-
-square-sum-requires : tie.Need-square-sum-requires
-square-sum-requires c κs = search needs
-
 returns : tie.Need-returns
 returns c = value-two binary64 _ _ _ (zero-is binary64) (c .before .square-weights .ensures) (c .square-sum .ensures)
 
 pub value2-spec : {M : Type 1} → statement M
-value2-spec = tie.close (tie.spec square-weights-requires square-sum-requires returns)
+value2-spec = tie.close (tie.spec (λ c κs. search needs) (λ c κs. search needs) returns)

@@ -6,21 +6,6 @@ use Rattle.sample.proofs.Weighing.{value-three}
 use Rattle.sample.proofs.sample.value3.Statement.{statement}
 use Rattle.sample.proofs.sample.value3.Tie as tie
 
-square-weights-requires : tie.Need-square-weights-requires
-square-weights-requires c κs = search needs
-
-square-times-requires : tie.Need-square-times-requires
-square-times-requires c κs = search needs
-
-square-sum-requires : tie.Need-square-sum-requires
-square-sum-requires c κs = search needs
-
-square-times-requires-2 : tie.Need-square-times-requires-2
-square-times-requires-2 c κs = search needs
-
-square-sum-requires-2 : tie.Need-square-sum-requires-2
-square-sum-requires-2 c κs = search needs
-
 returns : tie.Need-returns
 returns c =
     let low = c .before .before in
@@ -31,9 +16,9 @@ pub value3-spec : {M : Type 1} → statement M
 value3-spec =
     tie.close
     (tie.spec
-    square-weights-requires
-    square-times-requires
-    square-sum-requires
-    square-times-requires-2
-    square-sum-requires-2
+    (λ c κs. search needs)
+    (λ c κs. search needs)
+    (λ c κs. search needs)
+    (λ c κs. search needs)
+    (λ c κs. search needs)
     returns)

@@ -7,15 +7,6 @@ use Rattle.sample.proofs.StencilLaws.{folded, in-its-cell}
 use Rattle.sample.proofs.stencil.folded_axis.Statement.{statement}
 use Rattle.sample.proofs.stencil.folded_axis.Tie as tie
 
-add-if1 : tie.Need-add-if1
-add-if1 c = search needs
-
-sub-t7 : tie.Need-sub-t7
-sub-t7 c = search needs
-
-number-of-requires : tie.Need-number-of-requires
-number-of-requires c κs = search needs
-
 returns : tie.Need-returns
 returns c = folded binary64 _ _ _ (one-is binary64) (omega arith)
 
@@ -24,4 +15,4 @@ returns-2 c = in-its-cell binary64 _ _ _ (c .number-of .ensures) (omega arith)
 
 pub folded-axis-spec : {M : Type 1} → statement M
 folded-axis-spec =
-    tie.close (tie.spec add-if1 sub-t7 number-of-requires returns returns-2)
+    tie.close (tie.spec (λ c. search needs) (λ c. search needs) (λ c κs. search needs) returns returns-2)

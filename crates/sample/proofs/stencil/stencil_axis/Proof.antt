@@ -14,15 +14,6 @@ use Rattle.sample.proofs.StencilLaws.{cell-not-below, below-domain, abo
 use Rattle.sample.proofs.stencil.stencil_axis.Statement.{statement}
 use Rattle.sample.proofs.stencil.stencil_axis.Tie as tie
 
-sub-nearest-u64-to-f64 : tie.Need-sub-nearest-u64-to-f64
-sub-nearest-u64-to-f64 c = search needs
-
-nearest-u64-to-f64-requires : tie.Need-nearest-u64-to-f64-requires
-nearest-u64-to-f64-requires c κs = search needs
-
-cell-of-requires : tie.Need-cell-of-requires
-cell-of-requires c κs = search needs
-
 -- the cell, read back from its bits as itself
 back : (c : tie.After-cell-of) → toZ w64 (ofZ w64 (c .cell-of .result)) ≡ c .cell-of .result
 back c = toZ-ofZ w64 (c .cell-of .result) (record { sfits = c .cell-of .ok })
@@ -54,9 +45,9 @@ pub stencil-axis-spec : {M : Type 1} → statement M
 stencil-axis-spec =
     tie.close
     (tie.spec
-    sub-nearest-u64-to-f64
-    nearest-u64-to-f64-requires
-    cell-of-requires
+    (λ c. search needs)
+    (λ c κs. search needs)
+    (λ c κs. search needs)
     cast-cell
     folded-axis-requires
     returns

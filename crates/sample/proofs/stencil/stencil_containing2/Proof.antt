@@ -21,23 +21,11 @@ second c = sym (c .before .before .stencil-axis2 .ensures) ∙ ap onAxis (c .y .
 stencil-axis-requires : tie.Need-stencil-axis-requires
 stencil-axis-requires c κs = at-least-first _ _ _ (c .pre)
 
-enum-known-x : tie.Need-enum-known-x
-enum-known-x c = search needs
-
-enum-told : tie.Need-enum-told
-enum-told c = search needs
-
 returns : tie.Need-returns
 returns c = sym (axis-off _ _ _ _ _ (sym (c .before .before .stencil-axis .ensures) ∙ ap onAxis (c .enum-told .given .1)))
 
 stencil-axis-requires-2 : tie.Need-stencil-axis-requires-2
 stencil-axis-requires-2 c κs = at-least-first _ _ _ (at-least-rest _ _ _ (c .before .before .before .before .pre))
-
-enum-known-y : tie.Need-enum-known-y
-enum-known-y c = search needs
-
-enum-told-2 : tie.Need-enum-told-2
-enum-told-2 c = search needs
 
 returns-2 : tie.Need-returns-2
 returns-2 c =
@@ -54,11 +42,11 @@ stencil-containing2-spec =
     tie.close
     (tie.spec
     stencil-axis-requires
-    enum-known-x
-    enum-told
+    (λ c. search needs)
+    (λ c. search needs)
     returns
     stencil-axis-requires-2
-    enum-known-y
-    enum-told-2
+    (λ c. search needs)
+    (λ c. search needs)
     returns-2
     returns-3)
