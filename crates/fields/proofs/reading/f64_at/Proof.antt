@@ -4,14 +4,8 @@ use borrow.Author.Needs.{needs}
 use Rattle.fields.proofs.reading.f64_at.Statement.{statement}
 use Rattle.fields.proofs.reading.f64_at.Tie as tie
 
-u64-at-requires : tie.Need-u64-at-requires
-u64-at-requires c κs = search needs
-
-float-of-requires : tie.Need-float-of-requires
-float-of-requires c κs = search needs
-
 returns : tie.Need-returns
 returns c = rw (c .float-of .ensures, c .before .u64-at .ensures) refl
 
 pub f64-at-spec : {M : Type 1} → statement M
-f64-at-spec = tie.close (tie.spec u64-at-requires float-of-requires returns)
+f64-at-spec = tie.close (tie.spec (λ c κs. search needs) (λ c κs. search needs) returns)

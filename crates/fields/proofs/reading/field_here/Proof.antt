@@ -12,9 +12,6 @@ returns c =
     let a = c .before .before .args in
     sym (field-cut (a .tag) (a .size) (a .at) (now (a .bytes)) (omega arith))
 
-sub-left : tie.Need-sub-left
-sub-left c = search needs
-
 returns-2 : tie.Need-returns-2
 returns-2 c =
     let a = c .before .before .before .args in
@@ -24,18 +21,6 @@ returns-3 : tie.Need-returns-3
 returns-3 c =
     let a = c .before .before .before .before .args in
     sym (field-cut (a .tag) (a .size) (a .at) (now (a .bytes)) (omega arith))
-
-shared-slice-read-if4 : tie.Need-shared-slice-read-if4
-shared-slice-read-if4 c = search needs
-
-add-u16-at : tie.Need-add-u16-at
-add-u16-at c = search needs
-
-u16-at-requires : tie.Need-u16-at-requires
-u16-at-requires c κs = search needs
-
-cast-result : tie.Need-cast-result
-cast-result c = search needs
 
 returns-4 : tie.Need-returns-4
 returns-4 c =
@@ -52,12 +37,12 @@ field-here-spec =
     tie.close
     (tie.spec
     returns
-    sub-left
+    (λ c. search needs)
     returns-2
     returns-3
-    shared-slice-read-if4
-    add-u16-at
-    u16-at-requires
-    cast-result
+    (λ c. search needs)
+    (λ c. search needs)
+    (λ c κs. search needs)
+    (λ c. search needs)
     returns-4
     returns-5)

@@ -10,15 +10,6 @@ use Rattle.rules.specs.Fields.{littleEndian}
 use Rattle.fields.proofs.writing.put_field.Statement.{statement}
 use Rattle.fields.proofs.writing.put_field.Tie as tie
 
-slice-write-out : tie.Need-slice-write-out
-slice-write-out c = search needs
-
-add-put-u16 : tie.Need-add-put-u16
-add-put-u16 c = search needs
-
-cast-put-u16 : tie.Need-cast-put-u16
-cast-put-u16 c = search needs
-
 put-u16-requires : tie.Need-put-u16-requires
 put-u16-requires c κs = simp length-set (omega arith)
 
@@ -32,4 +23,11 @@ returns c =
 
 pub put-field-spec : {M : Type 1} → statement M
 put-field-spec =
-    tie.close (tie.spec slice-write-out add-put-u16 cast-put-u16 put-u16-requires same-length returns)
+    tie.close
+    (tie.spec
+    (λ c. search needs)
+    (λ c. search needs)
+    (λ c. search needs)
+    put-u16-requires
+    same-length
+    returns)

@@ -25,12 +25,6 @@ abbrev μ-loop : tie.MeasureT-loop
 loop-holds : tie.Need-loop-holds Inv-loop μ-loop
 loop-holds c = (c .before .before .pre .0, c .before .before .pre .1, refl, refl)
 
-mul-put-f64 : tie.Need-mul-put-f64 Inv-loop μ-loop
-mul-put-f64 c = search needs
-
-shared-slice-read-put-f64 : tie.Need-shared-slice-read-put-f64 Inv-loop μ-loop
-shared-slice-read-put-f64 c = omega arith
-
 put-f64-requires : tie.Need-put-f64-requires Inv-loop μ-loop
 put-f64-requires c κs =
     let l = c .before .before .before .loop in
@@ -42,12 +36,6 @@ add-here c = let good = c .before .before .before .before .before .before .befor
 
 add-place : tie.Need-add-place Inv-loop μ-loop
 add-place c = let good = c .before .before .before .before .before .before .before .before .before .good in omega arith
-
-sub-left : tie.Need-sub-left Inv-loop μ-loop
-sub-left c = omega arith
-
-loop-less : tie.Need-loop-less Inv-loop μ-loop
-loop-less c = omega arith
 
 loop-again : tie.Need-loop-again Inv-loop μ-loop
 loop-again c =
@@ -81,13 +69,13 @@ put-floats-spec =
     Inv-loop
     μ-loop
     loop-holds
-    mul-put-f64
-    shared-slice-read-put-f64
+    (λ c. search needs)
+    (λ c. omega arith)
     put-f64-requires
     add-here
     add-place
-    sub-left
-    loop-less
+    (λ c. omega arith)
+    (λ c. omega arith)
     loop-again
     same-length
     returns)
