@@ -5,24 +5,6 @@ use Rattle.rules.specs.TheGridAndItsBounds.{allPairs, bounded}
 use Rattle.checks.proofs.all_bounded.Statement.{statement}
 use Rattle.checks.proofs.all_bounded.Tie as tie
 
-with-requires : tie.Need-with-requires
-with-requires c κs = search needs
-
-is-bounded-requires : tie.Need-is-bounded-requires
-is-bounded-requires c κs = search needs
-
-with-requires-2 : tie.Need-with-requires-2
-with-requires-2 c κs = search needs
-
-is-bounded-requires-2 : tie.Need-is-bounded-requires-2
-is-bounded-requires-2 c κs = search needs
-
-with-requires-3 : tie.Need-with-requires-3
-with-requires-3 c κs = search needs
-
-is-bounded-requires-3 : tie.Need-is-bounded-requires-3
-is-bounded-requires-3 c κs = search needs
-
 returns : tie.Need-returns
 unfolding bounded allPairs
 returns c =
@@ -48,12 +30,12 @@ pub all-bounded-spec : {M : Type 1} → statement M
 all-bounded-spec =
     tie.close
     (tie.spec
-    with-requires
-    is-bounded-requires
-    with-requires-2
-    is-bounded-requires-2
-    with-requires-3
-    is-bounded-requires-3
+    (λ c κs. search needs)
+    (λ c κs. search needs)
+    (λ c κs. search needs)
+    (λ c κs. search needs)
+    (λ c κs. search needs)
+    (λ c κs. search needs)
     returns
     returns-2
     returns-3)

@@ -14,9 +14,6 @@ returns-2 : tie.Need-returns-2
 unfolding extentsRefusal firstTooSmall
 returns-2 c = simp (le-ltb _ _ (c .before .before .if1 .left), lt-ltb _ _ (c .if2 .taken))
 
-fits-capacity2-requires : tie.Need-fits-capacity2-requires
-fits-capacity2-requires c κs = search needs
-
 returns-3 : tie.Need-returns-3
 unfolding extentsRefusal firstTooSmall
 returns-3 c = simp (le-ltb _ _ (c .before .before .before .before .if1 .left), le-ltb _ _ (c .before .before .if2 .left), sym (c .before .fits-capacity2 .ensures) ∙ c .if3 .taken)
@@ -27,4 +24,4 @@ returns-4 c = simp (le-ltb _ _ (c .before .before .before .before .if1 .left), l
 
 pub extents-check2-spec : {M : Type 1} → statement M
 extents-check2-spec =
-    tie.close (tie.spec returns returns-2 fits-capacity2-requires returns-3 returns-4)
+    tie.close (tie.spec returns returns-2 (λ c κs. search needs) returns-3 returns-4)

@@ -18,9 +18,6 @@ returns-3 : tie.Need-returns-3
 unfolding extentsRefusal firstTooSmall
 returns-3 c = simp (le-ltb _ _ (c .before .before .before .before .if1 .left), le-ltb _ _ (c .before .before .if2 .left), lt-ltb _ _ (c .if3 .taken))
 
-fits-capacity3-requires : tie.Need-fits-capacity3-requires
-fits-capacity3-requires c κs = search needs
-
 returns-4 : tie.Need-returns-4
 unfolding extentsRefusal firstTooSmall
 returns-4 c = simp (le-ltb _ _ (c .before .before .before .before .before .before .if1 .left), le-ltb _ _ (c .before .before .before .before .if2 .left), le-ltb _ _ (c .before .before .if3 .left), sym (c .before .fits-capacity3 .ensures) ∙ c .if4 .taken)
@@ -31,4 +28,4 @@ returns-5 c = simp (le-ltb _ _ (c .before .before .before .before .before .befor
 
 pub extents-check3-spec : {M : Type 1} → statement M
 extents-check3-spec =
-    tie.close (tie.spec returns returns-2 returns-3 fits-capacity3-requires returns-4 returns-5)
+    tie.close (tie.spec returns returns-2 returns-3 (λ c κs. search needs) returns-4 returns-5)

@@ -12,27 +12,12 @@ use Rattle.checks.specs.Checking.{checkOf, usedRefusal}
 use Rattle.checks.proofs.head_check2.Statement.{statement}
 use Rattle.checks.proofs.head_check2.Tie as tie
 
-extents-check2-requires : tie.Need-extents-check2-requires
-extents-check2-requires c κs = search needs
-
-enum-known-r : tie.Need-enum-known-r
-enum-known-r c = search needs
-
-enum-told : tie.Need-enum-told
-enum-told c = search needs
-
 -- the extents have passed
 in-bounds : (c : tie.After-enum-told) → InBounds (extents2 (c .before .before .before .args .e))
 in-bounds c = extents-passed _ (sym (c .before .before .extents-check2 .ensures) ∙ ap checkOf (c .enum-told .given .1))
 
-is-bounded-requires : tie.Need-is-bounded-requires
-is-bounded-requires c κs = search needs
-
 mul-used-check : tie.Need-mul-used-check
 mul-used-check c = let p = in-bounds (c .before .before) in fits-le (mul-le-mul (p .0 .1) (p .0 .2 .1)) (fits-lit {n = 4096 * 4096} tt)
-
-used-check-requires : tie.Need-used-check-requires
-used-check-requires c κs = search needs
 
 returns : tie.Need-returns
 unfolding headRefusal
@@ -52,11 +37,11 @@ pub head-check2-spec : {M : Type 1} → statement M
 head-check2-spec =
     tie.close
     (tie.spec
-    extents-check2-requires
-    enum-known-r
-    enum-told
-    is-bounded-requires
+    (λ c κs. search needs)
+    (λ c. search needs)
+    (λ c. search needs)
+    (λ c κs. search needs)
     mul-used-check
-    used-check-requires
+    (λ c κs. search needs)
     returns
     returns-2)

@@ -12,33 +12,15 @@ use Rattle.checks.specs.Checking.{checkOf, usedRefusal}
 use Rattle.checks.proofs.head_check3.Statement.{statement}
 use Rattle.checks.proofs.head_check3.Tie as tie
 
-extents-check3-requires : tie.Need-extents-check3-requires
-extents-check3-requires c κs = search needs
-
-enum-known-r : tie.Need-enum-known-r
-enum-known-r c = search needs
-
-enum-told : tie.Need-enum-told
-enum-told c = search needs
-
 -- the extents have passed
 in-bounds : (c : tie.After-enum-told) → InBounds (extents3 (c .before .before .before .args .e))
 in-bounds c = extents-passed _ (sym (c .before .before .extents-check3 .ensures) ∙ ap checkOf (c .enum-told .given .1))
-
-all-bounded-requires : tie.Need-all-bounded-requires
-all-bounded-requires c κs = search needs
-
-cuts-in-bounds-requires : tie.Need-cuts-in-bounds-requires
-cuts-in-bounds-requires c κs = search needs
 
 mul-used-check : tie.Need-mul-used-check
 mul-used-check c = let p = in-bounds (c .before .before .before) in fits-le (mul-le-mul (p .0 .2 .1) (p .0 .2 .2 .1)) (fits-lit {n = 4096 * 4096} tt)
 
 mul-used-check-2 : tie.Need-mul-used-check-2
 mul-used-check-2 c = let p = in-bounds (c .before .before .before .before) in fits-le (mul-le-mul (p .0 .1) (mul-le-mul (p .0 .2 .1) (p .0 .2 .2 .1))) (fits-lit {n = 4096 * (4096 * 4096)} tt)
-
-used-check-requires : tie.Need-used-check-requires
-used-check-requires c κs = search needs
 
 returns : tie.Need-returns
 unfolding headRefusal
@@ -59,13 +41,13 @@ pub head-check3-spec : {M : Type 1} → statement M
 head-check3-spec =
     tie.close
     (tie.spec
-    extents-check3-requires
-    enum-known-r
-    enum-told
-    all-bounded-requires
-    cuts-in-bounds-requires
+    (λ c κs. search needs)
+    (λ c. search needs)
+    (λ c. search needs)
+    (λ c κs. search needs)
+    (λ c κs. search needs)
     mul-used-check
     mul-used-check-2
-    used-check-requires
+    (λ c κs. search needs)
     returns
     returns-2)

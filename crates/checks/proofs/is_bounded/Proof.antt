@@ -9,9 +9,6 @@ use Rattle.laws.specs.Literals.{zero-is}
 use Rattle.checks.proofs.is_bounded.Statement.{statement}
 use Rattle.checks.proofs.is_bounded.Tie as tie
 
-sizes-bounded-requires : tie.Need-sizes-bounded-requires
-sizes-bounded-requires c κs = search needs
-
 returns : tie.Need-returns
 unfolding bounded allPairs
 returns c = c .sizes-bounded .ensures ∙ sym (bounded-by-size _ (modelOf (c .before .before .before .before .before .before .before .args .m) .lowest) (rw (zero-is binary64) at (c .before .before .before .before .before .if1 .taken)) (rw (zero-is binary64) at (c .before .before .before .if2 .taken)) (rw (zero-is binary64) at (c .before .if3 .taken)))
@@ -29,4 +26,4 @@ unfolding bounded allPairs pairBounded
 returns-4 c = simp (rw (zero-is binary64) at (c .if1 .left))
 
 pub is-bounded-spec : {M : Type 1} → statement M
-is-bounded-spec = tie.close (tie.spec sizes-bounded-requires returns returns-2 returns-3 returns-4)
+is-bounded-spec = tie.close (tie.spec (λ c κs. search needs) returns returns-2 returns-3 returns-4)

@@ -5,15 +5,9 @@ use Rattle.checks.specs.Checking.{usedRefusal}
 use Rattle.checks.proofs.used_check.Statement.{statement}
 use Rattle.checks.proofs.used_check.Tie as tie
 
-fails-requires : tie.Need-fails-requires
-fails-requires c κs = search needs
-
 returns : tie.Need-returns
 unfolding usedRefusal
 returns c = simp (sym (c .before .fails .ensures) ∙ c .if1 .taken)
-
-fails-requires-2 : tie.Need-fails-requires-2
-fails-requires-2 c κs = search needs
 
 returns-2 : tie.Need-returns-2
 unfolding usedRefusal
@@ -22,9 +16,6 @@ returns-2 c =
       sym (c .before .before .before .fails .ensures) ∙ c .before .before .if1 .left,
       sym (c .before .fails2 .ensures) ∙ c .if2 .taken,
     )
-
-fails-requires-3 : tie.Need-fails-requires-3
-fails-requires-3 c κs = search needs
 
 returns-3 : tie.Need-returns-3
 unfolding usedRefusal
@@ -35,9 +26,6 @@ returns-3 c =
       sym (c .before .fails3 .ensures) ∙ c .if3 .taken,
     )
 
-fails-requires-4 : tie.Need-fails-requires-4
-fails-requires-4 c κs = search needs
-
 returns-4 : tie.Need-returns-4
 unfolding usedRefusal
 returns-4 c =
@@ -47,12 +35,6 @@ returns-4 c =
       sym (c .before .before .before .fails3 .ensures) ∙ c .before .before .if3 .left,
       sym (c .before .fails4 .ensures) ∙ c .if4 .taken,
     )
-
-is-open-requires : tie.Need-is-open-requires
-is-open-requires c κs = search needs
-
-fails-requires-5 : tie.Need-fails-requires-5
-fails-requires-5 c κs = search needs
 
 returns-5 : tie.Need-returns-5
 unfolding usedRefusal
@@ -80,15 +62,15 @@ pub used-check-spec : {M : Type 1} → statement M
 used-check-spec =
     tie.close
     (tie.spec
-    fails-requires
+    (λ c κs. search needs)
     returns
-    fails-requires-2
+    (λ c κs. search needs)
     returns-2
-    fails-requires-3
+    (λ c κs. search needs)
     returns-3
-    fails-requires-4
+    (λ c κs. search needs)
     returns-4
-    is-open-requires
-    fails-requires-5
+    (λ c κs. search needs)
+    (λ c κs. search needs)
     returns-5
     returns-6)

@@ -14,12 +14,6 @@ returns c =
     let a = c .before .args in
     ap (eqb (a .numbers)) (sym (ap (λ (n : ℕ). n * a .count) (c .if1 .taken) ∙ zero-mul (a .count)))
 
-rem-if2 : tie.Need-rem-if2
-rem-if2 c = search needs
-
-div-result : tie.Need-div-result
-div-result c = search needs
-
 returns-2 : tie.Need-returns-2
 returns-2 c =
     let a = c .before .before .args in
@@ -30,4 +24,4 @@ returns-3 : tie.Need-returns-3
 returns-3 c = let a = c .before .before .args in sym (left-over (a .numbers) (a .size) (a .count) (c .if2 .left))
 
 pub so-many-each-spec : {M : Type 1} → statement M
-so-many-each-spec = tie.close (tie.spec returns rem-if2 div-result returns-2 returns-3)
+so-many-each-spec = tie.close (tie.spec returns (λ c. search needs) (λ c. search needs) returns-2 returns-3)
