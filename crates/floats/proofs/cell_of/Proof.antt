@@ -37,12 +37,6 @@ returns c =
     cell-plus (w .result) (small c) ∙ ap (cellKept false) (w .ensures ∙ ap (λ n. wholePart n (fractionOf x)) (low-exponent x low))
     ∙ sym (cell-is x false (s .good .0 .1) (equals-itself x (c .before .before .if1 .taken)) (low-sign x low))
 
-any-cell-of-requires : tie.Need-any-cell-of-requires
-any-cell-of-requires c κs = search needs
-
-returns-2 : tie.Need-returns-2
-returns-2 c = search needs
-
 pub cell-of-spec : {M : Type 1} → statement M
 cell-of-spec =
     tie.close
@@ -51,5 +45,5 @@ cell-of-spec =
     whole-part-requires
     cast-result
     returns
-    any-cell-of-requires
-    returns-2)
+    (λ c κs. search needs)
+    (λ c. search needs))

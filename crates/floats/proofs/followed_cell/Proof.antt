@@ -34,9 +34,6 @@ cast-highest c =
     let small = below (exponentOf x) (fractionOf x) 12 (fraction-lt x) (exponent-below x (c .before .if2 .left)) in
     search needs
 
-int-to-float-highest : tie.Need-int-to-float-highest
-int-to-float-highest c = search needs
-
 returns-3 : tie.Need-returns-3
 unfolding numberF
 returns-3 c h =
@@ -62,6 +59,6 @@ followed-cell-spec =
     returns-2
     whole-part-requires
     cast-highest
-    int-to-float-highest
+    (λ c. search needs)
     returns-3
     returns-4)

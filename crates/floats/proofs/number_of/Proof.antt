@@ -18,9 +18,6 @@ exact : (n : ℕ) → n < 9_007_199_254_740_992 → T (inFloat binary64 (toZ w64
 unfolding inFloat
 exact n h = subst (λ (z : ℤ). T (inFloat binary64 z)) (sym (toZ-pos w64 n (omega arith))) (le→leb n (2 ^ 53) (omega arith))
 
-cast-result : tie.Need-cast-result
-cast-result c = search needs
-
 int-to-float-result : tie.Need-int-to-float-result
 int-to-float-result c = exact (c .before .before .args .n) (c .before .if1 .taken)
 
@@ -28,12 +25,9 @@ returns : tie.Need-returns
 unfolding numberF
 returns c = ap (ofInt binary64) (toZ-pos w64 (c .before .before .args .n) (omega arith))
 
-nearest-u64-to-f64-requires : tie.Need-nearest-u64-to-f64-requires
-nearest-u64-to-f64-requires c κs = search needs
-
 returns-2 : tie.Need-returns-2
 unfolding numberF
 returns-2 c = c .nearest-u64-to-f64 .ensures
 
 pub number-of-spec : {M : Type 1} → statement M
-number-of-spec = tie.close (tie.spec cast-result int-to-float-result returns nearest-u64-to-f64-requires returns-2)
+number-of-spec = tie.close (tie.spec (λ c. search needs) int-to-float-result returns (λ c κs. search needs) returns-2)

@@ -9,12 +9,6 @@ use Rattle.floats.proofs.WholePart.{shifted-left, shifted-right, nothin
 use Rattle.floats.proofs.whole_part.Statement.{statement}
 use Rattle.floats.proofs.whole_part.Tie as tie
 
-sub-result : tie.Need-sub-result
-sub-result c = search needs
-
-shl-result : tie.Need-shl-result
-shl-result c = search needs
-
 returns : tie.Need-returns
 returns c =
     let e = c .before .args .exponent in
@@ -28,9 +22,6 @@ returns-2 c =
     let a = c .before .before in
     sym (nothing-left (a .args .exponent) (a .args .fraction) (a .pre .1) (omega arith))
 
-shr-result : tie.Need-shr-result
-shr-result c = search needs
-
 returns-3 : tie.Need-returns-3
 returns-3 c =
     let e = c .before .before .args .exponent in
@@ -38,4 +29,12 @@ returns-3 c =
     ap (λ (n : ℕ). n / 2 ^ (1075 - e)) (or-shifted-r 1 52 t (c .before .before .pre .1)) ∙ sym (shifted-right e t (omega arith) (omega arith))
 
 pub whole-part-spec : {M : Type 1} → statement M
-whole-part-spec = tie.close (tie.spec sub-result shl-result returns returns-2 shr-result returns-3)
+whole-part-spec =
+    tie.close
+    (tie.spec
+    (λ c. search needs)
+    (λ c. search needs)
+    returns
+    returns-2
+    (λ c. search needs)
+    returns-3)
