@@ -1,2 +1,3 @@
 -- What the walks of this crate share.
+pub mod HeadFromC
 pub mod SliceFromC
