@@ -4,6 +4,7 @@ pub mod Contracts
 pub mod Entering
 pub mod GiveUp
 pub mod Handed
+pub mod HeadWalk
 pub mod InSlice
 pub mod Opening
 pub mod Pieces

@@ -42,14 +42,15 @@ use denote.Triple.Call.{calls-at}
 use denote.Triple.Clauses.{Ended, Clauses, closing, ensured, lasts}
 use denote.Triple.Walked.{says, Stays, gave-ref, gave-slice, walkOf, goes-gave-ref, goes-gave-slice, Walks, ends-at, walked, walk-meets}
 use denote.Exit.{yes}
-use denote.Signature.{Slot, plain, mutRefTo, mutSliceOf}
+use denote.Signature.{plain}
 use Rattle.rules.specs.RefusalNumbers.Entries.{beginScanEntry}
 use Rattle.rules.specs.TheGridAndItsBounds.{Head}
 use Rattle.types.specs.Answers.{setAnswer}
 use Rattle.types.specs.declared.answers.SetAnswer.{SetAnswer}
 use Rattle.types.proofs.answers.SetAnswer as S
 use Rattle.types.proofs.answers.SetAnswer.Laws as S′
-use Rattle.lent.specs.LentHead.{Opened, leftIn, inPlace}
+use Rattle.lent.specs.LentHead.{leftIn, inPlace}
+use Rattle.lent.proofs.Contracts.{open-params, open-ended, open-clauses, opened, Opens, Open}
 use Rattle.lent.proofs.Handed.{handed}
 use Rattle.lent.proofs.Pieces.{typeAt, seqs, var, get, set}
 use Rattle.c_types.specs.Answers.{Told, cSet}
@@ -94,37 +95,15 @@ module _ (G : Declared) (head : G .D → Head) (opening : Name) where
   abbrev tyAt : ℕ → Ty
   tyAt k = typeAt locals k
 
-  -- ---- its contract, and the entry's
-  abbrev lent : List (Slot 2)
-  lent = mutRefTo (0 ∷ []) tt (plain (λ _. Rg)) ∷ mutSliceOf (1 ∷ []) tt (plain (λ _. u32)) ∷ []
-
-  abbrev open-ended : Ended
-  open-ended = record {
-    signature = record { lifetimes = 2; outlives = []; params = lent; result = plain (λ _. S.the-row) };
-    kept = (yes, (yes, tt));
-  }
-
+  -- ---- its contract
   abbrev c-ended : Ended
   c-ended = record {
-    signature = record { lifetimes = 2; outlives = []; params = lent; result = plain (λ _. R.the-row) };
+    signature = record { lifetimes = 2; outlives = []; params = open-params G; result = plain (λ _. R.the-row) };
     kept = (yes, (yes, tt));
   }
-
-  abbrev opened : SetAnswer → G .D → List ℕ → Opened
-  opened r h′ zs = record { answer = setAnswer r; head = head h′; stamps = zs }
-
-  abbrev Opened-as : G .D → List ℕ → SetAnswer → G .D → List ℕ → Type 0
-  Opened-as h ys r h′ zs = opened r h′ zs ≡ leftIn (head h) (beginScanEntry (head h) ys)
 
   abbrev Told-as : G .D → List ℕ → CRefusal → G .D → List ℕ → Type 0
   Told-as h ys c h′ zs = Told cSet (inPlace (leftIn (head h) (beginScanEntry (head h) ys))) c (head h′, zs)
-
-  abbrev open-clauses : {M : Type 1} (𝓤 : URA M) → Clauses 𝓤 open-ended
-  open-clauses 𝓤 κs a = record {
-    ghost = Unit {0};
-    requires = λ _. emp 𝓤;
-    ensures = λ _ r e. fact 𝓤 (Opened-as (now (a .0)) (now (a .1 .0)) r (now (e .0)) (now (e .1 .0)));
-  }
 
   abbrev c-clauses : {M : Type 1} (𝓤 : URA M) → Clauses 𝓤 c-ended
   c-clauses 𝓤 κs a = record {
@@ -132,9 +111,6 @@ module _ (G : Declared) (head : G .D → Head) (opening : Name) where
     requires = λ _. emp 𝓤;
     ensures = λ _ c e. fact 𝓤 (Told-as (now (a .0)) (now (a .1 .0)) c (now (e .0)) (now (e .1 .0)));
   }
-
-  abbrev Open : {M : Type 1} (𝓤 : URA M) (H : Heap 𝓤) (A : Atoms 𝓤) → Contract 𝓤
-  Open 𝓤 H A = tripleOf 𝓤 H A (open-ended .signature) (closing 𝓤 H A open-ended (open-clauses 𝓤))
 
   abbrev stayed : Stays (c-ended .signature .params) (c-ended .kept)
   stayed = (gave-ref (0 ∷ []) tt (plain (λ _. Rg)), (gave-slice (1 ∷ []) tt (plain (λ _. u32)), tt))
@@ -164,10 +140,10 @@ module _ (G : Declared) (head : G .D → Head) (opening : Name) where
     Owned = ‵ (owns (MutRef (named 0) κ Rg ∷ MutSlice (named 1) κ′ u32 ∷ []) a vals)
 
     -- what the entry's triple binds outside: it asks for all that this function has
-    abbrev to-open : Open 𝓤 H A .Ghost
+    abbrev to-open : Open G head 𝓤 H A .Ghost
     to-open = (((κ, (κ′, tt)), (q, (q′, tt)), bounds, a, vals), tt)
 
-    goes : ent 𝓤 (⋆ 𝓤 H A (Tokens ∷ Owned ∷ [])) (Open 𝓤 H A .pre to-open)
+    goes : ent 𝓤 (⋆ 𝓤 H A (Tokens ∷ Owned ∷ [])) (Open G head 𝓤 H A .pre to-open)
     goes = qed W (Tokens ∷ Owned ∷ []) ∵ join ! $ frame ! $ done !
 
     -- the same of `set_to_c`
@@ -183,9 +159,6 @@ module _ (G : Declared) (head : G .D → Head) (opening : Name) where
     Left h′ zs = Tokens ∷ ‵ (fres γ (Rg .coded .code h′)) ∷ ‵ (finally u32 γ′ zs) ∷ []
 
     -- what each contract says: the two that are cited, and this function's
-    abbrev Opens : SetAnswer → G .D → List ℕ → Type 0
-    Opens = Opened-as h ys
-
     abbrev Converted : SetAnswer → CRefusal → Type 0
     Converted r c = c ≡ cSet (setAnswer r)
 
@@ -201,7 +174,7 @@ module _ (G : Declared) (head : G .D → Head) (opening : Name) where
         nothing ! $ move ! (2 ∷ 0 ∷ []) $ fjoin ! $ move ! (1 ∷ 0 ∷ []) $ fjoin ! $ frame ! $
         owned ! R.the-row (Is R.the-row) (LL.makes R.the-type R′.the-plain 𝓤 H A) c _ g $ done !
 
-    walk : (C : Calls 𝓤 H) (Λ : Loops 𝓤 H) → FmC 𝓤 H (W .laws) C → Triple 𝓤 (C opening) (Open 𝓤 H A) → Triple 𝓤 (C #convert) (Convert 𝓤 H A at-mem run)
+    walk : (C : Calls 𝓤 H) (Λ : Loops 𝓤 H) → FmC 𝓤 H (W .laws) C → Triple 𝓤 (C opening) (Open G head 𝓤 H A) → Triple 𝓤 (C #convert) (Convert 𝓤 H A at-mem run)
         → Room u32 (length ys)
         → ent 𝓤 (onEntry 𝓤 H A (c-ended .signature) (κ, (κ′, tt)) (q, (q′, tt)) a vals) (WpFn 𝓤 H C Λ function (vptr b o ∷ s ∷ []) Post)
     walk C Λ fm opens known room =
@@ -214,14 +187,14 @@ module _ (G : Declared) (head : G .D → Head) (opening : Name) where
         assigns ! (agg ! (and-then ! (load ! (from ! (stop !)) (look ! 2 refl))
         (and-then ! (load ! (from ! (fld ! refl (stop !))) (look-in ! 8 (sub ! 1 refl (whole !)))) (no-more !)))) (from ! (stop !))
         (init ! 0 refl (tt, (tt, (record { fits = room .0 }, tt)))) $
-        move ! (14 ∷ 15 ∷ []) $ use2 W (raw (Open 𝓤 H A .pre to-open)) goes $
-        calls-at ! fm (Open 𝓤 H A) opens to-open (and-then ! (load ! (from ! (stop !)) (look ! 5 refl))
+        move ! (14 ∷ 15 ∷ []) $ use2 W (raw (Open G head 𝓤 H A .pre to-open)) goes $
+        calls-at ! fm (Open G head 𝓤 H A) opens to-open (and-then ! (load ! (from ! (stop !)) (look ! 5 refl))
         (and-then ! (load ! (from ! (stop !)) (look ! 1 refl)) (no-more !))) (λ w.
         use1 W (later (some (λ (r : SetAnswer). (Tokens ⊛ ‵ (S.the-row .own r (w ∷ []))) ⊛ raw
-        (ensured 𝓤 H A open-ended (open-clauses 𝓤) (κ, (κ′, tt)) a tt r)))) (id⊢ 𝓤 _) $ await ! tt $ pick ! (λ r.
-        split ! $ move ! (1 ∷ []) $ use1 W (some (λ (ws : G .D × (List ℕ × Unit {0})). ‵ (lasts open-ended (κ, (κ′, tt)) a ws) ⊛ raw
-        (fact 𝓤 (Opens r (ws .0) (ws .1 .0))))) (id⊢ 𝓤 _) $ pick ! (λ ws.
-        split ! $ move ! (1 ∷ []) $ heard ! (Opens r (ws .0) (ws .1 .0)) (λ e. fsplit ! $ move ! (1 ∷ []) $ fsplit ! $ fsplit ! $ move ! (1 ∷ []) $ feqL ! (λ l.
+        (ensured 𝓤 H A (open-ended G) (open-clauses G head 𝓤) (κ, (κ′, tt)) a tt r)))) (id⊢ 𝓤 _) $ await ! tt $ pick ! (λ r.
+        split ! $ move ! (1 ∷ []) $ use1 W (some (λ (ws : G .D × (List ℕ × Unit {0})). ‵ (lasts (open-ended G) (κ, (κ′, tt)) a ws) ⊛ raw
+        (fact 𝓤 (Opens G head h ys r (ws .0) (ws .1 .0))))) (id⊢ 𝓤 _) $ pick ! (λ ws.
+        split ! $ move ! (1 ∷ []) $ heard ! (Opens G head h ys r (ws .0) (ws .1 .0)) (λ e. fsplit ! $ move ! (1 ∷ []) $ fsplit ! $ fsplit ! $ move ! (1 ∷ []) $ feqL ! (λ l.
         -- [the last stamps; true; the last head; the tokens and the result; the locals]
         move ! (3 ∷ []) $ split ! $ move ! (1 ∷ []) $ peeks ! S.the-row (Is S.the-row) (shows 𝓤 H A S.the-row) r (w ∷ []) (λ is.
         land ! (from ! (stop !)) (init ! 11 refl (EL.lawful S.the-type S′.the-laws 𝓤 H A W tt .typed r _ is .0)) $
@@ -243,10 +216,10 @@ module _ (G : Declared) (head : G .D → Head) (opening : Name) where
         move ! (12 ∷ 13 ∷ []) $ free1 ! $ move ! (10 ∷ 11 ∷ []) $ free1 ! $ move ! (8 ∷ 9 ∷ []) $ free1 ! $ move ! (6 ∷ 7 ∷ []) $ free1 ! $ move ! (4 ∷ 5 ∷ []) $ free1 ! $
         move ! (2 ∷ 3 ∷ []) $ free1 ! $ move ! (0 ∷ 1 ∷ []) $ free1 ! $ free0 ! $
         by ! (exits c (ws .0) (ws .1 .0) (subst (Is R.the-row c) (LL.tells R.the-type R′.the-laws c (u ∷ []) so) so)
-        (told cSet (inPlace (opened r (ws .0) (ws .1 .0))) _ c d (ap inPlace e)) l)))))))))))))))))))
+        (told cSet (inPlace (opened G head r (ws .0) (ws .1 .0))) _ c d (ap inPlace e)) l)))))))))))))))))))
 
   module _ {M : Type 1} (𝓤 : URA M) (H : Heap 𝓤) (A : Atoms 𝓤) (W : Given 𝓤 H A) (mem : Memory → SProp 𝓤) (run : Routine → Fun 𝓤) where
-    c-walks : (C : Calls 𝓤 H) (Λ : Loops 𝓤 H) → FmC 𝓤 H (W .laws) C → Triple 𝓤 (C opening) (Open 𝓤 H A) → Triple 𝓤 (C #convert) (Convert 𝓤 H A mem run)
+    c-walks : (C : Calls 𝓤 H) (Λ : Loops 𝓤 H) → FmC 𝓤 H (W .laws) C → Triple 𝓤 (C opening) (Open G head 𝓤 H A) → Triple 𝓤 (C #convert) (Convert 𝓤 H A mem run)
         → Walks 𝓤 H A c-ended stayed (WpFn 𝓤 H C Λ function) (c-clauses 𝓤)
     c-walks C Λ fm opens known = walked 𝓤 H A c-ended stayed (c-clauses 𝓤) (WpFn 𝓤 H C Λ function) (λ κs. (ptr-vals, (slice-vals, tt)))
         (λ κs. (mut-tells (named 0) (κs .0) Rg, (mut-slice-tells (named 1) (κs .1 .0) u32, tt)))
@@ -255,7 +228,7 @@ module _ (G : Declared) (head : G .D → Head) (opening : Name) where
         (a .1 .0 .name) (a .1 .0 .now) C Λ fm opens known (are .1 .0 .0 .1)))
 
   pub c-meets : {M : Type 1} (𝓤 : URA M) (H : Heap 𝓤) (A : Atoms 𝓤) → Given 𝓤 H A → (mem : Memory → SProp 𝓤) (run : Routine → Fun 𝓤) (𝓣 : Tables 𝓤 H)
-      → Triple 𝓤 (𝓣 .C opening) (Open 𝓤 H A) → Triple 𝓤 (𝓣 .C #convert) (Convert 𝓤 H A mem run)
+      → Triple 𝓤 (𝓣 .C opening) (Open G head 𝓤 H A) → Triple 𝓤 (𝓣 .C #convert) (Convert 𝓤 H A mem run)
       → Meets 𝓤 H A (c-ended .signature) (WpFn 𝓤 H (𝓣 .C) (𝓣 .Λ) function) (closing 𝓤 H A c-ended (c-clauses 𝓤))
   c-meets 𝓤 H A W mem run 𝓣 opens known =
       walk-meets 𝓤 H A c-ended stayed W (goes-gave-ref 𝓤 H A W 2 0 tt (plain (λ _. Rg)), (goes-gave-slice 𝓤 H A W 2 1 tt (plain (λ _. u32)), tt)) (c-clauses 𝓤)
