@@ -13,8 +13,8 @@
  * `rt staticlib tembuzar_samples` writes; it needs nothing of the other. So are those of charts and reports, in
  * target/staticlib/libtembuzar_charts.a.
  *
- * A name ends in the number of the map's axes, 2 or 3. The four functions of season reports end in none, since a report
- * knows columns and no axes.
+ * A function's name ends in the number of the map's axes, 2 or 3. The four functions of season reports have none: a
+ * report knows columns and no axes.
  *
  * WHAT THE CALLER HOLDS
  *
