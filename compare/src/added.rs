@@ -1,6 +1,6 @@
-//! Refusals that the requirements add and the original has not: bad heads (1, 2, 3, 9), lists of a wrong length (4), flat
-//! lists that are no list of beams (8). Several faults meet in one call; the first by the document's order is to be
-//! answered, what was asked for is to be 0, and no list may change.
+//! Refusals that the requirements add and the original has not: bad heads (1, 2, 3, 9), lists of a wrong length (4),
+//! flat lists that are no list of beams (8). Several faults meet in one call; the first by the document's order is to
+//! be answered, what was asked for is to be 0, and no list may change.
 
 use oracle::generate::{self, Rng};
 use oracle::rust::{HIGHEST_FRAME, MapState};

@@ -1,5 +1,5 @@
-//! Bands of unequal pairs, which the original has not: the same beams on three of its maps, one with each band's pair, leave
-//! in each cell what they leave on ours in the map of the cell's band. And cuts that are refused with 15.
+//! Bands of unequal pairs, which the original has not: the same beams on three of its maps, one with each band's pair,
+//! leave in each cell what they leave on ours in the map of the cell's band. And cuts that are refused with 15.
 
 use oracle::generate::{self, Rng};
 use oracle::rust::{MapState, RustMap};

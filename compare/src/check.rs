@@ -192,8 +192,8 @@ impl<'a, const N: usize> Work<'a, N> {
         answers::mark(ours, theirs.map_err(|why| refusal_of_cell(why, self.pair.extents(), cell)))
     }
 
-    /// Odds put into single cells, by turns with and without the check for NaN, which the original does not have: on the grid NaN is then
-    /// refused with 13, and everything else is the original's set.
+    /// Odds put into single cells, by turns with and without the check for NaN, which the original does not have: on
+    /// the grid NaN is then refused with 13, and everything else is the original's set.
     pub fn sets<L: Face<N>>(&mut self) -> Verdict {
         let mut tried = Vec::new();
         let verdict = (0..4).try_for_each(|_| {

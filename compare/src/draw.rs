@@ -147,7 +147,8 @@ fn face(rng: &mut Rng, extent: f64) -> f64 {
     }
 }
 
-/// A float close to some cell's face, from about 2^-17 to the next float: where a step of a whole cell rounds across it.
+/// A float close to some cell's face, from about 2^-17 to the next float: where a step of a whole cell rounds across
+/// it.
 fn near_face(rng: &mut Rng, extent: f64) -> f64 {
     let face = rng.below(extent as usize + 1) as f64;
     let little = 2f64.powi(-17 - rng.below(37) as i32);

@@ -40,8 +40,8 @@ pub struct Axis {
 #[derive(Clone, Copy, Debug)]
 pub struct Extents<const N: usize>(pub [u64; N]);
 
-/// A head. The header's for two axes, which crosses as it stands; for three it becomes a `Map3` on its way: the original has
-/// one pair of steps, so every band has it, and the cuts do not matter.
+/// A head. The header's for two axes, which crosses as it stands; for three it becomes a `Map3` on its way: the
+/// original has one pair of steps, so every band has it, and the cuts do not matter.
 #[repr(C)]
 #[derive(Clone, Copy, Debug)]
 pub struct Map<const N: usize> {

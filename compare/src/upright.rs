@@ -1,5 +1,5 @@
-//! Vertical beams, against the original's beam between the centres of the cells at their ends, or up to the upper face where
-//! they ran out; and beams outside the profile, which the original does not have.
+//! Vertical beams, against the original's beam between the centres of the cells at their ends, or up to the upper face
+//! where they ran out; and beams outside the profile, which the original does not have.
 
 use oracle::generate::Rng;
 use oracle::rust::Beam;

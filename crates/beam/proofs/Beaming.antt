@@ -1,4 +1,5 @@
--- What a beam leaves, by its marks, in every format: none for a miss, those along its line, or a refusal that changes nothing. Assumes nothing.
+-- What a beam leaves, by its marks, in every format: none for a miss, those along its line, or a refusal that changes
+-- nothing. Assumes nothing.
 use Prim.Native.Nat.{ℕ}
 use mathlib.Core.List.{List, []}
 use mathlib.Core.Bool.{Bool, true, false, cond}

@@ -1,4 +1,5 @@
--- A walk by whole numbers: what holds between its steps, over lines of any number of axes, in every format. Assumes nothing.
+-- A walk by whole numbers: what holds between its steps, over lines of any number of axes, in every format. Assumes
+-- nothing.
 use Prim.Native.Nat.{ℕ, _+_, _<_, _≤_}
 use mathlib.Core.List.{List, map}
 use mathlib.Core.Path.{_≡_, refl, sym, subst}

@@ -1,4 +1,5 @@
--- Marks one list after another: the grid after both, and the count of both; and that marks keep the lists' lengths. Assumes nothing.
+-- Marks one list after another: the grid after both, and the count of both; and that marks keep the lists' lengths.
+-- Assumes nothing.
 use Prim.Native.Nat.{ℕ, _+_}
 use mathlib.Core.List.{List, [], _∷_, _++_}
 use mathlib.Core.Path.{_≡_, refl, _∙_}

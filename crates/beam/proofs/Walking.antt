@@ -1,5 +1,5 @@
--- A walk along a line: what holds between its steps, over lines of any number of axes, in every format. Whatever the rest of the line does to the
--- lists as they stand, the whole line does to the lists as they were. Assumes nothing.
+-- A walk along a line: what holds between its steps, over lines of any number of axes, in every format. Whatever the
+-- rest of the line does to the lists as they stand, the whole line does to the lists as they were. Assumes nothing.
 use Prim.Native.Nat.{ℕ, _+_, _-_, _<_}
 use mathlib.Core.Bool.{Bool, false, cond}
 use mathlib.Core.List.{List, []}

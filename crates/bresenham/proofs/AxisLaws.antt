@@ -1,4 +1,5 @@
--- One axis of a line in every format, by the tests that the code made of it: z and o are the code's zero and one. Assumes nothing.
+-- One axis of a line in every format, by the tests that the code made of it: z and o are the code's zero and one.
+-- Assumes nothing.
 use Prim.Native.Nat.{ℕ}
 use mathlib.Core.Bool.{true, false}
 use mathlib.Core.Path.{_≡_}

@@ -1,5 +1,5 @@
--- A line over any number of axes, in every format, by what the code's tests found: a step by what remains and which axis is primary, a delta by its
--- sign, and the plotter by the first delta that is not finite. Assumes nothing.
+-- A line over any number of axes, in every format, by what the code's tests found: a step by what remains and which
+-- axis is primary, a delta by its sign, and the plotter by the first delta that is not finite. Assumes nothing.
 use Prim.Native.Nat.{ℕ, suc, _^_, _≤_, _<_}
 use mathlib.Core.Path.{_≡_, refl, sym, ap, _∙_}
 use mathlib.Core.Bool.{Bool, true, false, not, cond}
@@ -65,7 +65,8 @@ module _ (f : Format) where
   unfolding allFinite deltas
   passed = refl
 
-  -- the primary axis, an axis at a time: d is the code's delta, and next its choice between this axis and the best before it
+  -- the primary axis, an axis at a time: d is the code's delta, and next its choice between this axis and the best
+  -- before it
   pub chooses : (k : ℕ) (best : Primary) (x y : Float) (xs ys : List Float) {d : Float} {next p : Primary} → d ≡ delta f x y → next ≡ larger k d best
       → p ≡ primaryFrom (suc k) next (deltas f xs ys) → p ≡ primaryFrom k best (deltas f (x ∷ xs) (y ∷ ys))
   unfolding primaryFrom deltas

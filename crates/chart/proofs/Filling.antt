@@ -1,4 +1,5 @@
--- A chart column by column: the columns before one are written, and the rest of the list stands as it was. Assumes nothing.
+-- A chart column by column: the columns before one are written, and the rest of the list stands as it was. Assumes
+-- nothing.
 use Prim.Native.Nat.{ℕ, suc, _+_, _-_, _*_, _≤_, _<_}
 use mathlib.Core.Path.{_≡_, refl, sym, ap, _∙_}
 use mathlib.Core.List.{List, _++_}

@@ -1,5 +1,6 @@
--- The limits' decimals, as the requirements print them, and the code's literals: each limit is the binary64 nearest to its decimals, half a digit of
--- 2^-52 away at most; and the code's literal is that limit. By computing. Assumes nothing.
+-- The limits' decimals, as the requirements print them, and the code's literals: each limit is the binary64 nearest to
+-- its decimals, half a digit of 2^-52 away at most; and the code's literal is that limit. By computing. Assumes
+-- nothing.
 use Prim.Native.Nat.{ℕ, _+_, _-_, _*_, _^_}
 use mathlib.Core.Path.{_≡_, refl}
 use mathlib.Core.Bool.{Bool, true, false, _&&_}

@@ -1,4 +1,5 @@
--- Points tried and clipped axis by axis, in every format: what the code's answer of the first axis says of the point. Assumes nothing.
+-- Points tried and clipped axis by axis, in every format: what the code's answer of the first axis says of the point.
+-- Assumes nothing.
 use Prim.Native.Nat.{ℕ}
 use mathlib.Core.Bool.{Bool, true, false, _&&_, and-true, or-false}
 use mathlib.Core.List.{List, [], _∷_}

@@ -1,4 +1,5 @@
--- One axis's part of clipping, in every format, by the tests that the code made: z is its zero, and limit its extent as a float. Assumes nothing.
+-- One axis's part of clipping, in every format, by the tests that the code made: z is its zero, and limit its extent as
+-- a float. Assumes nothing.
 use Prim.Native.Nat.{ℕ}
 use mathlib.Core.Bool.{Bool, true, false, cond, _&&_}
 use mathlib.Core.Option.{Option, some, none}

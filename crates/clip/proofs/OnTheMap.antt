@@ -1,6 +1,6 @@
--- A beam that starts and ends on the map is not cut by the slabs: its fractions stay 0 and 1. The far side of a slab is reached at 1 or more and the near
--- side at 0 or less, since rounding keeps the order of the differences and of 1. Of every format and any number of axes.
--- Assumes nothing.
+-- A beam that starts and ends on the map is not cut by the slabs: its fractions stay 0 and 1. The far side of a slab is
+-- reached at 1 or more and the near side at 0 or less, since rounding keeps the order of the differences and of 1. Of
+-- every format and any number of axes. Assumes nothing.
 pub mod Coordinate
 use mathlib.Core.Path.{_≡_, refl, sym, ap, ap₂, _∙_, subst}
 use mathlib.Core.Logic.{_⊎_, inl, inr}

@@ -1,4 +1,5 @@
--- A beam, tried and clipped, in every format and over any number of axes, by what the code's calls answered. Assumes nothing.
+-- A beam, tried and clipped, in every format and over any number of axes, by what the code's calls answered. Assumes
+-- nothing.
 use Prim.Native.Nat.{ℕ, _≤_}
 use mathlib.Core.Bool.{Bool, true, false, cond, _&&_}
 use mathlib.Core.List.{List}

@@ -1,4 +1,5 @@
--- Floats of a list as bytes, one step at a time: what a loop over them has left; and a field as its head and its bytes. Assumes nothing.
+-- Floats of a list as bytes, one step at a time: what a loop over them has left; and a field as its head and its bytes.
+-- Assumes nothing.
 use Prim.Native.Nat.{ℕ, zero, suc, _+_, _-_, _*_, _≤_, _<_}
 use mathlib.Core.List.{List, [], _∷_, _++_}
 use mathlib.Core.Path.{_≡_, refl, ap, _∙_}

@@ -1,4 +1,5 @@
--- A coordinate with no sign, at most its cell's number and one less a part of a cell, can be followed from that cell, in every format. Assumes nothing.
+-- A coordinate with no sign, at most its cell's number and one less a part of a cell, can be followed from that cell,
+-- in every format. Assumes nothing.
 use Prim.Native.Nat.{ℕ, _+_, _-_, _*_, _/_, _^_, _≤_, min}
 use mathlib.Core.Path.{_≡_, refl, sym, subst}
 use mathlib.Core.Bool.{true, false}

@@ -1,5 +1,5 @@
--- A float that is no NaN, cut to a whole number, by the fields that shifts and masks take out of its 64 bits. One law serves every range:
--- how a range keeps a whole part is its argument. Assumes nothing.
+-- A float that is no NaN, cut to a whole number, by the fields that shifts and masks take out of its 64 bits. One law
+-- serves every range: how a range keeps a whole part is its argument. Assumes nothing.
 use Prim.Native.Nat.{ℕ, zero, suc, _+_, _-_, _*_, _/_, _^_, _≤_, _<_}
 use mathlib.Core.Path.{_≡_, refl, sym, ap, ap₂, _∙_, subst}
 use mathlib.Core.Bool.{Bool, true, false, not}

@@ -1,5 +1,5 @@
--- The two ranges that a float is cut to, a cell's and a count's: what each keeps of a whole part, inside the range and beyond it.
--- Assumes nothing.
+-- The two ranges that a float is cut to, a cell's and a count's: what each keeps of a whole part, inside the range and
+-- beyond it. Assumes nothing.
 use Prim.Native.Nat.{ℕ, zero, suc, _-_, _*_, _/_, _^_, _≤_, _<_, min}
 use mathlib.Core.Path.{_≡_, refl, sym, ap, _∙_}
 use mathlib.Core.Bool.{Bool, true, false, cond}

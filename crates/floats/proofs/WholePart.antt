@@ -1,5 +1,5 @@
--- The whole part of a size, by its exponent's field: how far the fraction is shifted, and which power of two it lies below.
--- One pair of bounds over the power serves every range. Assumes nothing.
+-- The whole part of a size, by its exponent's field: how far the fraction is shifted, and which power of two it lies
+-- below. One pair of bounds over the power serves every range. Assumes nothing.
 use Prim.Native.Nat.{ℕ, _+_, _-_, _*_, _/_, _^_, _≤_, _<_}
 use mathlib.Core.Path.{_≡_, sym, ap, _∙_, subst}
 use native.Mathlib.Nat.{mul-assoc, mul-le-mul-right, lt-of-lt-of-le, le-trans}

@@ -1,7 +1,8 @@
--- The function that opens a sweep in a lent head meets its contract, over any head G and any answer N of a head: a walk of its MIR, by hand. The head's borrow
--- is opened and the head copied out; the head and the slice go to `begin_scan`, which the proof knows by its contract alone, and the slice's borrow for good.
--- What its match does goes by the answer's cases and writes a field of the head where it lies, so each function walks its own, from `Before` on, and ends in
--- `leaves`; all else of `begin_scan2` and `begin_scan3` stands here. Assumes nothing.
+-- The function that opens a sweep in a lent head meets its contract, over any head G and any answer N of a head: a walk
+-- of its MIR, by hand. The head's borrow is opened and the head copied out; the head and the slice go to `begin_scan`,
+-- which the proof knows by its contract alone, and the slice's borrow for good. What its match does goes by the
+-- answer's cases and writes a field of the head where it lies, so each function walks its own, from `Before` on, and
+-- ends in `leaves`; all else of `begin_scan2` and `begin_scan3` stands here. Assumes nothing.
 use mathlib.Core.Path.{_≡_, refl, subst}
 use Prim.Native.Nat.{ℕ}
 use mathlib.Core.List.{[], _∷_, List, map}
@@ -149,7 +150,8 @@ module _ (G : Declared) (G′ : LL.Laws G) (G″ : Plains (fields G)) (N : Enums
       abbrev Then : Kit.Post 𝓤 H
       Then = anyQ (afterSeq 𝓤 H (Wp 𝓤 H C Λ En last (atReturn 𝓤 H En Post)) (atReturn 𝓤 H En Post))
 
-      -- the locals: the match's value and the two that its arms bind as they are given, the callee's answer, and the rest
+      -- the locals: the match's value and the two that its arms bind as they are given, the callee's answer, and the
+      -- rest
       abbrev Locals : Item 𝓤 → Item 𝓤 → Item 𝓤 → Val → List (Item 𝓤)
       Locals i₉ i₅ i₄ v =
           i₉ ∷ ‵ (fdies (tyAt 9) l₉) ∷ ‵ (fat fullShare (tyAt 8) l₈ 0 s) ∷ ‵ (fdies (tyAt 8) l₈) ∷ ‵ (fat fullShare (tyAt 7) l₇ 0 (vptr b′ o′)) ∷ ‵ (fdies (tyAt 7) l₇) ∷
@@ -208,7 +210,8 @@ module _ (G : Declared) (G′ : LL.Laws G) (G″ : Plains (fields G)) (N : Enums
           move ! (21 ∷ []) $ fsplit ! $ fsplit3 ! $ drop ! $ move ! (23 ∷ []) $ split ! $ move ! (2 ∷ 3 ∷ 0 ∷ []) $
           opens ! tt R {h = h} b o (λ vs. spelt ! R (Is R) (shows 𝓤 H A R) (LL.vals G G′) (LL.tells G G′) fullShare h vs b o $
           move ! (1 ∷ []) $ peeks ! R (Is R) (shows 𝓤 H A R) h (mach h ∷ []) (λ was. move ! (1 ∷ 0 ∷ []) $
-          -- [the head's cell; what the head owns; the open borrow; obs; auth; the slice's token; what the slice owns; _9; …; _0; …]
+          -- [the head's cell; what the head owns; the open borrow; obs; auth; the slice's token; what the slice owns;
+          -- _9; …; _0; …]
           assigns ! (of-opd ! (load ! (from ! (hop ! (look ! 23 refl) (stop !))) (look-raw ! 0 refl))) (from ! (stop !))
           (init ! 19 refl (LL.lawful G G′ 𝓤 H A W .typed h _ was .0)) $
           assigns ! (addr ! (from ! (fld ! refl (hop ! (look-in ! 21 (sub ! 0 refl (whole !))) (stop !))))) (from ! (stop !)) (init ! 11 refl (tt, tt)) $
@@ -224,7 +227,8 @@ module _ (G : Declared) (G′ : LL.Laws G) (G″ : Plains (fields G)) (N : Enums
           split ! $ move ! (1 ∷ []) $ use1 W (some (λ (zs : Unit {0} × (List ℕ × Unit {0})). ‵ (lasts (begin-ended G N) (κ′, tt) (h, (x, tt)) zs) ⊛ raw
           (fact 𝓤 (Begun G N head outcome h ys r (zs .1 .0))))) (id⊢ 𝓤 _) $ pick ! (λ zs.
           split ! $ move ! (1 ∷ []) $ heard ! (Begun G N head outcome h ys r (zs .1 .0)) (λ e. fsplit ! $ move ! (1 ∷ []) $ fsplit ! $ fsplit ! $ move ! (1 ∷ []) $ feqL ! (λ l.
-          -- [the last list; true; the head's; the token and the result; true; the head's cell; what it owned; the open borrow; obs; auth; _9; …]
+          -- [the last list; true; the head's; the token and the result; true; the head's cell; what it owned; the open
+          -- borrow; obs; auth; _9; …]
           move ! (3 ∷ []) $ split ! $ move ! (1 ∷ []) $ peeks ! Rn (Is Rn) (shows 𝓤 H A Rn) r (w ∷ []) (λ is.
           land ! (from ! (stop !)) (init ! 17 refl (EL.lawful N N′ 𝓤 H A W few .typed r _ is .0)) $
           rewrite ! 17 (λ (vs : List Val). ‵ (fat fullShare (tyAt 6) l₆ 0 (only vs))) (EL.tells N N′ r (w ∷ []) is) refl $

@@ -1,4 +1,5 @@
--- A sweep opened in a lent head: what the answer by value says of the head that is left, over any number of axes. Assumes nothing.
+-- A sweep opened in a lent head: what the answer by value says of the head that is left, over any number of axes.
+-- Assumes nothing.
 use Prim.Native.Nat.{ℕ}
 use mathlib.Core.List.{List}
 use mathlib.Core.Option.{Option, some, none}

@@ -1,5 +1,5 @@
--- Pieces of a function's MIR that the generated modules give no name: the type of a local, what follows some statements, and the arms of a match.
--- They say nothing of the crate. Definitions only.
+-- Pieces of a function's MIR that the generated modules give no name: the type of a local, what follows some
+-- statements, and the arms of a match. They say nothing of the crate. Definitions only.
 use Prim.Native.Nat.{ℕ, zero, suc}
 use mathlib.Core.List.{List, [], _∷_}
 use lib.ListN.{getD}

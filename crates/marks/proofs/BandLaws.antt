@@ -1,5 +1,6 @@
--- Bands: the pair that a cell uses passes every test that all pairs pass; with equal pairs every cell has the same pair, whatever the cuts; a height is
--- below a cut where the place lies below that many layers. Of any number of bands. Assumes nothing.
+-- Bands: the pair that a cell uses passes every test that all pairs pass; with equal pairs every cell has the same
+-- pair, whatever the cuts; a height is below a cut where the place lies below that many layers. Of any number of bands.
+-- Assumes nothing.
 use Prim.Native.Nat.{ℕ, _*_, _/_, _≤_, _<_}
 use mathlib.Core.Bool.{Bool, true, false, cond}
 use mathlib.Core.List.{List, [], _∷_}

@@ -1,5 +1,5 @@
--- The band of a place, by the layers below its cuts; and that those are few enough to be counted. Of the rules' models alone, so of every format.
--- Assumes nothing.
+-- The band of a place, by the layers below its cuts; and that those are few enough to be counted. Of the rules' models
+-- alone, so of every format. Assumes nothing.
 use Prim.Native.Nat.{ℕ, _*_, _/_, _≤_, _<_}
 use mathlib.Core.Bool.{Bool, true, false}
 use mathlib.Core.List.{List, [], _∷_}

@@ -1,4 +1,5 @@
--- One mark in every format: what it leaves of the lists, by the tests that a function made of the stamp and of the odds. Assumes nothing.
+-- One mark in every format: what it leaves of the lists, by the tests that a function made of the stamp and of the
+-- odds. Assumes nothing.
 use Prim.Native.Nat.{ℕ, _/_}
 use mathlib.Core.Bool.{Bool, true, false}
 use mathlib.Core.List.{List}

@@ -1,5 +1,5 @@
--- The cell that contains a point, over any number of axes, in every format: one axis by the code's tests, and the axes one after the other by what the
--- code's calls answered. Assumes nothing.
+-- The cell that contains a point, over any number of axes, in every format: one axis by the code's tests, and the axes
+-- one after the other by what the code's calls answered. Assumes nothing.
 use Prim.Native.Nat.{ℕ, suc, _+_, _*_, _≤_}
 use mathlib.Core.Bool.{Bool, true, false, not, cond}
 use mathlib.Core.List.{List, [], _∷_}

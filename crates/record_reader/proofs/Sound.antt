@@ -1,4 +1,5 @@
--- A record's refusal field by field, and what a record that is not refused holds. Over any number of axes. Assumes nothing.
+-- A record's refusal field by field, and what a record that is not refused holds. Over any number of axes. Assumes
+-- nothing.
 use Prim.Native.Nat.{ℕ, suc, _+_, _-_, _*_, _≤_}
 use mathlib.Core.Bool.{Bool, true, false, cond, _&&_}
 use mathlib.Core.List.{List, [], _∷_}

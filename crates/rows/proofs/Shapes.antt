@@ -1,4 +1,5 @@
--- Extents as so many rows of a width: what a record's rows need of them. Over any number of axes; two and three show theirs. Assumes nothing.
+-- Extents as so many rows of a width: what a record's rows need of them. Over any number of axes; two and three show
+-- theirs. Assumes nothing.
 use Prim.Native.Nat.{ℕ, _*_, _≤_}
 use mathlib.Core.List.{List}
 use mathlib.Core.Path.{_≡_, refl, sym, ap, _∙_}

@@ -1,4 +1,5 @@
--- The rows of a record tried: their refusal one step at a time, and what a record's reading is where they are passed. Assumes nothing.
+-- The rows of a record tried: their refusal one step at a time, and what a record's reading is where they are passed.
+-- Assumes nothing.
 use Prim.Native.Nat.{ℕ, zero, suc, _+_, _-_, _*_, _≤_, _<_}
 use mathlib.Core.List.{List, _++_}
 use mathlib.Core.Option.{none}

@@ -1,5 +1,5 @@
--- Laws of the rules' sample, over any number of axes: where the corners of a stencil stand, that each is a cell of the grid, and the
--- sample by its offsets and its corners. Assumes nothing.
+-- Laws of the rules' sample, over any number of axes: where the corners of a stencil stand, that each is a cell of the
+-- grid, and the sample by its offsets and its corners. Assumes nothing.
 use Prim.Native.Nat.{ℕ, _+_, _*_, _≤_, _<_}
 use mathlib.Core.Path.{_≡_, refl, sym, ap, _∙_, fun-ext}
 use mathlib.Core.Bool.{Bool, true, false, cond}

@@ -1,5 +1,5 @@
--- Laws of the rules' stencil, over any number of axes: what one axis says of a whole stencil, and that the cell above the stencil's is
--- still on the grid, so that every corner is a real cell. Assumes nothing.
+-- Laws of the rules' stencil, over any number of axes: what one axis says of a whole stencil, and that the cell above
+-- the stencil's is still on the grid, so that every corner is a real cell. Assumes nothing.
 use Prim.Native.Nat.{ℕ, suc, _+_, _-_, _*_, _/_, _^_, _≤_, _<_, min}
 use mathlib.Core.Path.{_≡_, refl}
 use mathlib.Core.Bool.{Bool, true, false, cond, _&&_}
@@ -62,7 +62,8 @@ cell-above f e x a h q = go (le zeroF x && le x (numberF f (e - 1))) q
     go true q = let k : foldedAxis f e x (natAbs (truncated x)) ≡ a = cc in rw k at (folded-above f e x (natAbs (truncated x)) h)
     go false q = let z : _≡_ {A = ℕ} 0 1 = cc in absurd (omega arith)
 
--- ---- one axis by the tests that the code made: o is its one, n its number of the cell, z its zero, and top its highest coordinate of a stencil
+-- ---- one axis by the tests that the code made: o is its one, n its number of the cell, z its zero, and top its
+-- highest coordinate of a stencil
 module _ (f : Format) (e : ℕ) (x : Float) where
   pub folded : (c : ℕ) {o : Float} → o ≡ oneF → e ≤ c + 1 → _≡_ {A = StencilAxis} (record { cell = e - 2; offset = o }) (foldedAxis f e x c)
   unfolding foldedAxis

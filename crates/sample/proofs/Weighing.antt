@@ -1,5 +1,5 @@
--- The leaves of a sample, in every format: weights, sums and differences over the corners of one axis, of two and of three, by what the code's calls
--- answered. Assumes nothing.
+-- The leaves of a sample, in every format: weights, sums and differences over the corners of one axis, of two and of
+-- three, by what the code's calls answered. Assumes nothing.
 use mathlib.Core.List.{List, [], _∷_}
 use mathlib.Core.Path.{_≡_, refl}
 use lib.Ieee.{Float, Format, sub, mul}

@@ -1,4 +1,5 @@
--- A sample has a gradient along each axis, so it fills its slot; and what the test of the counts has shown. Assumes nothing.
+-- A sample has a gradient along each axis, so it fills its slot; and what the test of the counts has shown. Assumes
+-- nothing.
 use Prim.Native.Nat.{ℕ, suc, _*_}
 use mathlib.Core.Bool.{Bool, true}
 use mathlib.Core.Path.{_≡_, refl, ap, _∙_}

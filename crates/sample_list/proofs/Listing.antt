@@ -1,4 +1,5 @@
--- A list of points, point by point: what holds between two of them, over any number of axes, in every format. Assumes nothing.
+-- A list of points, point by point: what holds between two of them, over any number of axes, in every format. Assumes
+-- nothing.
 use Prim.Native.Nat.{ℕ, suc, _+_, _-_, _*_, _≤_, _<_}
 use mathlib.Core.List.{List, [], _∷_, _++_, append-assoc, append-nil}
 use mathlib.Core.Option.{Option, some, none}

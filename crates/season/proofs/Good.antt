@@ -1,4 +1,5 @@
--- Good charts make good reports, and the sum of two good reports is one: column by column, as facts about numbers. Assumes nothing.
+-- Good charts make good reports, and the sum of two good reports is one: column by column, as facts about numbers.
+-- Assumes nothing.
 use Prim.Native.Nat.{ℕ, zero, suc, _+_, _*_, _/_, _%_, _≤_, _<_}
 use mathlib.Core.Path.{_≡_, refl, sym, ap, _∙_}
 use mathlib.Core.Bool.{Bool, true, false, cond, _&&_}

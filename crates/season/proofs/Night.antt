@@ -1,4 +1,5 @@
--- A night column by column: the columns before one have theirs, and the rest of the list stands as it was. Assumes nothing.
+-- A night column by column: the columns before one have theirs, and the rest of the list stands as it was. Assumes
+-- nothing.
 use Prim.Native.Nat.{ℕ, zero, suc, _+_, _-_, _*_, _≤_, _<_}
 use mathlib.Core.Path.{_≡_, refl, sym, ap, _∙_}
 use mathlib.Core.Bool.{true}

@@ -1,6 +1,7 @@
--- The C function that opens a sweep in a lent head meets its contract, over any head G: a walk of its MIR, by hand. The head and the stamps go to the entry of
--- `lent` for good, and its answer to `set_to_c`; the proof knows both by their contracts alone. `tembuzar_open_scan2` and `tembuzar_open_scan3` are this function,
--- at their heads and their entries. Assumes nothing.
+-- The C function that opens a sweep in a lent head meets its contract, over any head G: a walk of its MIR, by hand. The
+-- head and the stamps go to the entry of `lent` for good, and its answer to `set_to_c`; the proof knows both by their
+-- contracts alone. `tembuzar_open_scan2` and `tembuzar_open_scan3` are this function, at their heads and their entries.
+-- Assumes nothing.
 use mathlib.Core.Path.{_≡_, refl, ap, subst}
 use Prim.Native.Nat.{ℕ}
 use mathlib.Core.List.{[], _∷_, List, map}

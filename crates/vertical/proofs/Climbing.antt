@@ -1,5 +1,5 @@
--- Marks up a column, in every format: what holds between two of them. Whatever the cells that are left do to the lists as they stand, the whole column does to the lists as they
--- were. Assumes nothing.
+-- Marks up a column, in every format: what holds between two of them. Whatever the cells that are left do to the lists
+-- as they stand, the whole column does to the lists as they were. Assumes nothing.
 use Prim.Native.Nat.{ℕ, zero, suc, _+_, _-_, _*_, _≤_, _<_}
 use mathlib.Core.Bool.{Bool, true, false}
 use mathlib.Core.List.{List, [], _∷_}

@@ -1,4 +1,5 @@
--- A vertical beam in its profile: the facts that the code's test stands for, and the places of a column's cells. Assumes nothing.
+-- A vertical beam in its profile: the facts that the code's test stands for, and the places of a column's cells.
+-- Assumes nothing.
 use Prim.Native.Nat.{ℕ, _≤_, _<_}
 use mathlib.Core.Path.{_≡_, refl}
 use mathlib.Core.Bool.{Bool, true, false, _&&_}

@@ -1,4 +1,5 @@
--- A coordinate that lies on an axis, in [0, extent), as a fraction: what the proofs of uncut beams take it apart into. Assumes nothing.
+-- A coordinate that lies on an axis, in [0, extent), as a fraction: what the proofs of uncut beams take it apart into.
+-- Assumes nothing.
 use mathlib.Core.Path.{_≡_, refl, sym, ap, ap₂, _∙_, subst}
 use mathlib.Core.Bool.{Bool, true, false, _&&_}
 use mathlib.Core.List.{List, [], _∷_}

@@ -1,5 +1,6 @@
--- `begin_scan3` meets its contract: it is the function that `HeadWalk` walks, at its head and its answer, and its match is walked here, by hand, by cases on
--- what `begin_scan` answers: a map's frame is written into the lent head, a refusal leaves it; then the borrow is closed. Assumes nothing.
+-- `begin_scan3` meets its contract: it is the function that `HeadWalk` walks, at its head and its answer, and its match
+-- is walked here, by hand, by cases on what `begin_scan` answers: a map's frame is written into the lent head, a
+-- refusal leaves it; then the borrow is closed. Assumes nothing.
 use mathlib.Core.Path.{refl, ap}
 use Prim.Native.Nat.{_+_, _-_, _*_}
 use mathlib.Core.List.{[], _∷_}

@@ -1,5 +1,6 @@
 -- The axes answer one after the other: the first refusal stands, and the indices make the cell.
--- In the answers x, y and z are the places where those axes were asked, i and j those past the indices of the first two.
+-- In the answers x, y and z are the places where those axes were asked, i and j those past the indices of the first
+-- two.
 use mathlib.Core.Path.{ap}
 use lib.Ieee.{binary64}
 use mir.Syntax.{w64}

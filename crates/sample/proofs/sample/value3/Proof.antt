@@ -1,4 +1,5 @@
--- The rule of the value, computed over eight corners: four on the low side of the third axis, then four on its high side.
+-- The rule of the value, computed over eight corners: four on the low side of the third axis, then four on its high
+-- side.
 use lib.Ieee.{binary64}
 use Rattle.laws.specs.Literals.{zero-is, one-is}
 use borrow.Author.Needs.{needs}

@@ -1,4 +1,5 @@
--- The code's two tests are the rule's; a coordinate that is not below zero has no cell below zero, so the cell is a number.
+-- The code's two tests are the rule's; a coordinate that is not below zero has no cell below zero, so the cell is a
+-- number.
 use mathlib.Core.Path.{_≡_, ap, _∙_}
 use lib.IntN.{natAbs}
 use lib.Signed.{natAbs-le}

@@ -1,5 +1,5 @@
--- `tembuzar_update_beams2` meets its contract: it is the function that `SliceFromC` walks, at its head, its beam and `update_beams2`, whose contract it cites.
--- Assumes nothing.
+-- `tembuzar_update_beams2` meets its contract: it is the function that `SliceFromC` walks, at its head, its beam and
+-- `update_beams2`, whose contract it cites. Assumes nothing.
 use contract.Running.{givenOf, tables, tablesOf}
 use denote.Triple.Spec.{tripleOf}
 use denote.Triple.Table.{entered, cited}
