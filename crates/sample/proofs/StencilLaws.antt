@@ -1,5 +1,5 @@
 -- Laws of the rules' stencil, over any number of axes: what one axis says of a whole stencil, and that the cell above
--- the stencil's is still on the grid, so that every corner is a real cell. Assumes nothing.
+-- the stencil's is still on the grid, so that every corner is a real cell. Last, that the maps to the rules have ways back. Assumes nothing.
 use Prim.Native.Nat.{ℕ, suc, _+_, _-_, _*_, _/_, _^_, _≤_, _<_, min}
 use mathlib.Core.Path.{_≡_, refl}
 use mathlib.Core.Bool.{Bool, true, false, cond, _&&_}
@@ -17,6 +17,16 @@ use Rattle.rules.specs.RefusalNumbers.{dimensionTooSmall}
 use Rattle.rules.specs.RefusalNumbers.Entries.{firstTooSmall}
 use Rattle.rules.specs.TheGridAndItsBounds.{leastExtent, allAtLeast}
 use Rattle.rules.specs.Coordinates.{StencilAxis, truncated, foldedAxis, stencilAxis, stencil, joined}
+use lib.ListN.{getD}
+use Rattle.types.proofs.Injective.{Injective, of-back}
+use Rattle.types.proofs.InjectiveAnswers.{read-back}
+use Rattle.sample.specs.declared.stencil.StencilAxis as Code
+use Rattle.sample.specs.declared.stencil.Stencil2.{Stencil2}
+use Rattle.sample.specs.declared.stencil.Stencil3.{Stencil3}
+use Rattle.sample.specs.declared.stencil.OnAxis as OnAxis
+use Rattle.sample.specs.declared.stencil.Stencilled2 as Stencilled2
+use Rattle.sample.specs.declared.stencil.Stencilled3 as Stencilled3
+use Rattle.sample.specs.Stencil.{axisOf, onAxis, stencil2, stencil3, stencilled2, stencilled3}
 
 left : (a b : Bool) → (a && b) ≡ true → a ≡ true
 left true b h = refl
@@ -128,3 +138,47 @@ none-too-small k (e ∷ es) h = go (ltb e leastExtent) refl h (none-too-small (s
         → (firstTooSmall (suc k) es ≡ none → allAtLeast leastExtent es ≡ true) → (leb leastExtent e && allAtLeast leastExtent es) ≡ true
     go true t q r = let z : _≡_ {A = ℕ} 0 1 = cc in absurd (omega arith)
     go false t q r = rw (le-leb leastExtent e (ltb-false e leastExtent t), r q)
+
+-- ---- each map to the rules is injective, so a contract that fixes what an answer stands for fixes the answer
+abbrev axis-back : StencilAxis → Code.StencilAxis
+axis-back a = record { cell = a .cell; offset = a .offset }
+
+-- the axis at a place of the list
+abbrev nth : List StencilAxis → ℕ → Code.StencilAxis
+nth as′ k = axis-back (getD as′ k (record { cell = 0; offset = nan }))
+
+abbrev stencil2-back : List StencilAxis → Stencil2
+stencil2-back as′ = record { x = nth as′ 0; y = nth as′ 1 }
+
+abbrev stencil3-back : List StencilAxis → Stencil3
+stencil3-back as′ = record { x = nth as′ 0; y = nth as′ 1; z = nth as′ 2 }
+
+pub axisOf-injective : Injective axisOf
+axisOf-injective = of-back axisOf axis-back (λ a. refl)
+
+pub stencil2-injective : Injective stencil2
+stencil2-injective = of-back stencil2 stencil2-back (λ s. refl)
+
+pub stencil3-injective : Injective stencil3
+stencil3-injective = of-back stencil3 stencil3-back (λ s. refl)
+
+onAxis-there : (o : OnAxis.OnAxis) → read-back (λ a. OnAxis.the-variants.In (axis-back a)) OnAxis.the-variants.Nothing (onAxis o) ≡ o
+onAxis-there (OnAxis.the-variants.In a) = refl
+onAxis-there OnAxis.the-variants.Nothing = refl
+
+pub onAxis-injective : Injective onAxis
+onAxis-injective = of-back onAxis (read-back (λ a. OnAxis.the-variants.In (axis-back a)) OnAxis.the-variants.Nothing) onAxis-there
+
+stencilled2-there : (o : Stencilled2.Stencilled2) → read-back (λ s. Stencilled2.the-variants.At (stencil2-back s)) Stencilled2.the-variants.Nothing (stencilled2 o) ≡ o
+stencilled2-there (Stencilled2.the-variants.At s) = refl
+stencilled2-there Stencilled2.the-variants.Nothing = refl
+
+pub stencilled2-injective : Injective stencilled2
+stencilled2-injective = of-back stencilled2 (read-back (λ s. Stencilled2.the-variants.At (stencil2-back s)) Stencilled2.the-variants.Nothing) stencilled2-there
+
+stencilled3-there : (o : Stencilled3.Stencilled3) → read-back (λ s. Stencilled3.the-variants.At (stencil3-back s)) Stencilled3.the-variants.Nothing (stencilled3 o) ≡ o
+stencilled3-there (Stencilled3.the-variants.At s) = refl
+stencilled3-there Stencilled3.the-variants.Nothing = refl
+
+pub stencilled3-injective : Injective stencilled3
+stencilled3-injective = of-back stencilled3 (read-back (λ s. Stencilled3.the-variants.At (stencil3-back s)) Stencilled3.the-variants.Nothing) stencilled3-there

@@ -3,12 +3,7 @@
 -- `ensures` of a public function takes, that it allows one answer. The law is in `Law`; docs/ENTRIES.md names each
 -- function with its theorem. `v` is any value of the rules. Assumes nothing.
 pub mod Law
-pub mod Values
-pub mod Answers
-pub mod Lines
-pub mod Heads
 pub mod Under
-pub mod InC
 pub mod Exceptions
 pub mod Grids
 pub mod Helpers
@@ -40,11 +35,12 @@ use Rattle.chart.specs.Charts.{chartOutcome}
 use Rattle.season.specs.Reports.{reportOutcome}
 use Rattle.sample_list.specs.Slots.{slotsOf, slotsOutcome}
 use Rattle.c_types.specs.Answers.{Told}
-use Rattle.theorems.specs.OneAnswer.Law.{OneAnswer, Fixed, Injective, one-answer, pair, plain, beside, both}
-use Rattle.theorems.specs.OneAnswer.Answers.{markAnswer-injective, countAnswer-injective, sweepAnswer-injective, setAnswer-injective, cellAnswer2-injective, cellAnswer3-injective}
-use Rattle.theorems.specs.OneAnswer.Answers.{oddsAnswer-injective, sampleAnswer2-injective, sampleAnswer3-injective}
-use Rattle.theorems.specs.OneAnswer.Lines.{step2-injective, step3-injective, plotted2-injective, plotted3-injective}
-use Rattle.theorems.specs.OneAnswer.Heads.{head2-injective, head3-injective, mapAnswer2-injective, mapAnswer3-injective}
+use Rattle.types.proofs.Injective.{Injective}
+use Rattle.theorems.specs.OneAnswer.Law.{OneAnswer, Fixed, one-answer, pair, plain, beside, both}
+use Rattle.types.proofs.InjectiveAnswers.{markAnswer-injective, countAnswer-injective, sweepAnswer-injective, setAnswer-injective, cellAnswer2-injective, cellAnswer3-injective}
+use Rattle.types.proofs.InjectiveAnswers.{oddsAnswer-injective, sampleAnswer2-injective, sampleAnswer3-injective}
+use Rattle.bresenham.proofs.Injective.{step2-injective, step3-injective, plotted2-injective, plotted3-injective}
+use Rattle.grid_map.proofs.Injective.{head2-injective, head3-injective, mapAnswer2-injective, mapAnswer3-injective}
 use Rattle.theorems.specs.OneAnswer.Grids.{grid, slots}
 
 -- ---- one value, `r ≡ v`, as in C, or one list that is left, `now (xs .exit) ≡ v`

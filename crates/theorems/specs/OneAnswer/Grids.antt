@@ -7,7 +7,7 @@ use Rattle.rules.specs.TheGridAndItsBounds.{Grid}
 use Rattle.rules.specs.ManySamples.{Slots}
 use Rattle.marks.specs.Marking.{gridOf}
 use Rattle.sample_list.specs.Slots.{slotsOf}
-use Rattle.theorems.specs.OneAnswer.Law.{Injective, of-back}
+use Rattle.types.proofs.Injective.{Injective, of-back}
 
 pub grid : Injective {A = List Float × List ℕ} {B = Grid} (λ l. gridOf (l .0) (l .1))
 grid = of-back (λ (l : List Float × List ℕ). gridOf (l .0) (l .1)) (λ (g : Grid). (g .odds, g .stamps)) (λ l. refl)

@@ -32,12 +32,14 @@ use Rattle.marks.specs.Marking.{stepsOf, MarkedAt}
 use Rattle.marks.specs.declared.marks.Steps.{Steps}
 use Rattle.grid_map.specs.Heads.{setOutcome}
 use Rattle.beam.specs.Applying.{Applied, Beamed, integratedOf}
-use Rattle.theorems.specs.OneAnswer.Law.{OneAnswer, Fixed, Injective, of-back, one-answer, pair, plain, beside}
-use Rattle.theorems.specs.OneAnswer.Values.{point2-injective, point3-injective, vector2-injective, vector3-injective, cell2-injective, cell3-injective, extents2-injective, extents3-injective, model-injective, hit-back}
-use Rattle.theorems.specs.OneAnswer.Answers.{countAnswer-injective, setAnswer-injective}
-use Rattle.theorems.specs.OneAnswer.Answers.{cellRead-injective, sampleRead2-injective, sampleRead3-injective}
-use Rattle.theorems.specs.OneAnswer.Lines.{axis-injective, primary-injective, line2-injective, line3-injective}
-use Rattle.theorems.specs.OneAnswer.Under.{onAxis-injective, stencilled2-injective, stencilled3-injective, checkOf-injective, placeOf-injective, passageOf-injective, stepsOf-injective, clip2-injective, clip3-injective, tried2-injective, tried3-injective}
+use Rattle.types.proofs.Injective.{Injective, of-back}
+use Rattle.theorems.specs.OneAnswer.Law.{OneAnswer, Fixed, one-answer, pair, plain, beside}
+use Rattle.types.proofs.Injective.{point2-injective, point3-injective, vector2-injective, vector3-injective, cell2-injective, cell3-injective, extents2-injective, extents3-injective, model-injective, hit-back}
+use Rattle.types.proofs.InjectiveAnswers.{countAnswer-injective, setAnswer-injective}
+use Rattle.types.proofs.InjectiveAnswers.{cellRead-injective, sampleRead2-injective, sampleRead3-injective}
+use Rattle.bresenham.proofs.Injective.{axis-injective, primary-injective, line2-injective, line3-injective}
+use Rattle.sample.proofs.StencilLaws.{onAxis-injective, stencilled2-injective, stencilled3-injective}
+use Rattle.theorems.specs.OneAnswer.Under.{checkOf-injective, placeOf-injective, passageOf-injective, stepsOf-injective, clip2-injective, clip3-injective, tried2-injective, tried3-injective}
 use Rattle.theorems.specs.OneAnswer.Grids.{grid}
 
 -- ---- a value of the code that stands for one of the rules: `point2 r ≡ v`

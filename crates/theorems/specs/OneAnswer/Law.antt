@@ -4,17 +4,11 @@
 use mathlib.Core.Path.{_≡_, refl, sym, ap, _∙_}
 use Rattle.rules.specs.RefusalNumbers.{Answer}
 use Rattle.rules.specs.RefusalNumbers.Entries.{Outcome}
+use Rattle.types.proofs.Injective.{Injective}
 
 -- what a contract allows is one: `Allowed` is its `ensures`, of all that is answered and left
 abbrev pub OneAnswer : {A : Type 0} → (A → Type 0) → Type 0
 OneAnswer {A} Allowed = (a b : A) → Allowed a → Allowed b → a ≡ b
-
-abbrev pub Injective : {A B : Type 0} → (A → B) → Type 0
-Injective {A} f = (a b : A) → f a ≡ f b → a ≡ b
-
--- a map with a way back is injective
-pub of-back : {A B : Type 0} (f : A → B) (back : B → A) → ((a : A) → back (f a) ≡ a) → Injective f
-of-back f back there a b h = sym (there a) ∙ ap back h ∙ there b
 
 -- a contract of the form `f a ≡ v`, where `v` is what the rules say of the input
 abbrev pub Fixed : {A B : Type 0} → (A → B) → Type 0

@@ -1,22 +1,10 @@
--- Stencils, checks, places, clips, spans and steps, of the functions under the entries: each map to the rules has a way
--- back. Assumes nothing.
-use Prim.Native.Nat.{ℕ}
+-- Checks, places, clips, spans and steps, of the functions under the entries: each map to the rules has a way back.
+-- Assumes nothing.
 use mathlib.Core.Path.{_≡_, refl, ap}
-use mathlib.Core.List.{List}
 use mathlib.Core.Option.{Option}
-use lib.ListN.{getD}
-use lib.Ieee.{nan}
 use Rattle.rules.specs.RefusalNumbers as Paper
-use Rattle.rules.specs.Coordinates.{StencilAxis}
 use Rattle.rules.specs.OneBeam as Beam
 use Rattle.rules.specs.MarksAndFrames as Marks
-use Rattle.sample.specs.declared.stencil.StencilAxis as Code
-use Rattle.sample.specs.declared.stencil.Stencil2.{Stencil2}
-use Rattle.sample.specs.declared.stencil.Stencil3.{Stencil3}
-use Rattle.sample.specs.declared.stencil.OnAxis as OnAxis
-use Rattle.sample.specs.declared.stencil.Stencilled2 as Stencilled2
-use Rattle.sample.specs.declared.stencil.Stencilled3 as Stencilled3
-use Rattle.sample.specs.Stencil.{axisOf, onAxis, stencil2, stencil3, stencilled2, stencilled3}
 use Rattle.checks.specs.declared.Check as Check
 use Rattle.checks.specs.Checking.{checkOf}
 use Rattle.places.specs.declared.index.Place as Place
@@ -30,52 +18,8 @@ use Rattle.clip.specs.Spans.{passageOf}
 use Rattle.clip.specs.Clips.{clip2, clip3, tried2, tried3}
 use Rattle.marks.specs.declared.marks.Steps.{Steps}
 use Rattle.marks.specs.Marking.{stepsOf}
-use Rattle.theorems.specs.OneAnswer.Law.{Injective, of-back}
-use Rattle.theorems.specs.OneAnswer.Values.{clipped2-back, clipped3-back}
-use Rattle.theorems.specs.OneAnswer.Answers.{answer-back, read-back, refusal-back, refusal-there}
-
-abbrev axis-back : StencilAxis → Code.StencilAxis
-axis-back a = record { cell = a .cell; offset = a .offset }
-
--- the axis at a place of the list
-abbrev nth : List StencilAxis → ℕ → Code.StencilAxis
-nth as′ k = axis-back (getD as′ k (record { cell = 0; offset = nan }))
-
-abbrev stencil2-back : List StencilAxis → Stencil2
-stencil2-back as′ = record { x = nth as′ 0; y = nth as′ 1 }
-
-abbrev stencil3-back : List StencilAxis → Stencil3
-stencil3-back as′ = record { x = nth as′ 0; y = nth as′ 1; z = nth as′ 2 }
-
-pub axisOf-injective : Injective axisOf
-axisOf-injective = of-back axisOf axis-back (λ a. refl)
-
-pub stencil2-injective : Injective stencil2
-stencil2-injective = of-back stencil2 stencil2-back (λ s. refl)
-
-pub stencil3-injective : Injective stencil3
-stencil3-injective = of-back stencil3 stencil3-back (λ s. refl)
-
-onAxis-there : (o : OnAxis.OnAxis) → read-back (λ a. OnAxis.the-variants.In (axis-back a)) OnAxis.the-variants.Nothing (onAxis o) ≡ o
-onAxis-there (OnAxis.the-variants.In a) = refl
-onAxis-there OnAxis.the-variants.Nothing = refl
-
-pub onAxis-injective : Injective onAxis
-onAxis-injective = of-back onAxis (read-back (λ a. OnAxis.the-variants.In (axis-back a)) OnAxis.the-variants.Nothing) onAxis-there
-
-stencilled2-there : (o : Stencilled2.Stencilled2) → read-back (λ s. Stencilled2.the-variants.At (stencil2-back s)) Stencilled2.the-variants.Nothing (stencilled2 o) ≡ o
-stencilled2-there (Stencilled2.the-variants.At s) = refl
-stencilled2-there Stencilled2.the-variants.Nothing = refl
-
-pub stencilled2-injective : Injective stencilled2
-stencilled2-injective = of-back stencilled2 (read-back (λ s. Stencilled2.the-variants.At (stencil2-back s)) Stencilled2.the-variants.Nothing) stencilled2-there
-
-stencilled3-there : (o : Stencilled3.Stencilled3) → read-back (λ s. Stencilled3.the-variants.At (stencil3-back s)) Stencilled3.the-variants.Nothing (stencilled3 o) ≡ o
-stencilled3-there (Stencilled3.the-variants.At s) = refl
-stencilled3-there Stencilled3.the-variants.Nothing = refl
-
-pub stencilled3-injective : Injective stencilled3
-stencilled3-injective = of-back stencilled3 (read-back (λ s. Stencilled3.the-variants.At (stencil3-back s)) Stencilled3.the-variants.Nothing) stencilled3-there
+use Rattle.types.proofs.Injective.{Injective, of-back, clipped2-back, clipped3-back}
+use Rattle.types.proofs.InjectiveAnswers.{answer-back, read-back, refusal-back, refusal-there}
 
 check-back : Option Paper.Refusal → Check.Check
 check-back = read-back (λ r. Check.the-variants.Refused (refusal-back r)) Check.the-variants.Passed

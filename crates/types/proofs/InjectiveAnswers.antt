@@ -9,25 +9,24 @@ use lib.ListN.{getD, length}
 use Rattle.rules.specs.RefusalNumbers as Paper
 use Rattle.rules.specs.RefusalNumbers.{Answer, given, refused}
 use Rattle.rules.specs.SweepFile.{Swept}
 use Rattle.types.specs.declared.refusal.Refusal as Refusal
 use Rattle.types.specs.declared.refusal.Refusal.the-variants as R
 use Rattle.types.specs.declared.answers.MarkAnswer as MarkAnswer
 use Rattle.types.specs.declared.answers.CountAnswer as CountAnswer
 use Rattle.types.specs.declared.answers.SweepAnswer as SweepAnswer
 use Rattle.types.specs.declared.answers.SetAnswer as SetAnswer
 use Rattle.types.specs.declared.answers.CellRead as CellRead
 use Rattle.types.specs.declared.answers.OddsAnswer as OddsAnswer
 use Rattle.types.specs.declared.answers.SampleRead2 as SampleRead2
 use Rattle.types.specs.declared.answers.SampleRead3 as SampleRead3
 use Rattle.types.specs.declared.answers.SampleAnswer2 as SampleAnswer2
 use Rattle.types.specs.declared.answers.SampleAnswer3 as SampleAnswer3
 use Rattle.types.specs.declared.answers.CellAnswer2 as CellAnswer2
 use Rattle.types.specs.declared.answers.CellAnswer3 as CellAnswer3
 use Rattle.types.specs.Refusals.{refusalOf}
 use Rattle.types.specs.Answers.{markAnswer, countAnswer, sweepAnswer, setAnswer, cellRead, oddsAnswer}
 use Rattle.types.specs.Answers.{sampleRead2, sampleRead3, sampleAnswer2, sampleAnswer3, cellAnswer2, cellAnswer3}
-use Rattle.theorems.specs.OneAnswer.Law.{Injective, of-back}
-use Rattle.theorems.specs.OneAnswer.Values.{cell2-back, cell3-back, sample2-back, sample3-back}
+use Rattle.types.proofs.Injective.{Injective, of-back, cell2-back, cell3-back, sample2-back, sample3-back}
 
 -- a refusal from its number and values; 7 has two cases, told apart by how many values it gives
 pub value : Paper.Refusal → ℕ → ℕ

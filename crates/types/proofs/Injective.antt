@@ -1,7 +1,7 @@
--- Each map of a point, cell, model, sample or beam to the rules has a way back, so two that stand for the same are the
--- same. Assumes nothing.
+-- Each map to the rules is injective: two values that stand for the same are the same. So a contract that fixes what an answer stands for
+-- fixes the answer. Each map has a way back, and one law does the rest. Answers and refusals are in `InjectiveAnswers`. Assumes nothing.
 use Prim.Native.Nat.{ℕ}
-use mathlib.Core.Path.{refl}
+use mathlib.Core.Path.{_≡_, refl, sym, ap, _∙_}
 use mathlib.Core.Bool.{Bool}
 use mathlib.Core.List.{List}
 use lib.IntN.{ℤ, pos}
@@ -11,30 +11,36 @@ use Rattle.rules.specs.TheGridAndItsBounds as Grid
 use Rattle.rules.specs.Coordinates as Coordinates
 use Rattle.rules.specs.OneBeam as Beam
 use Rattle.rules.specs.VerticalBeam as Vertical
 use Rattle.types.specs.declared.points.Point2.{Point2}
 use Rattle.types.specs.declared.points.Point3.{Point3}
 use Rattle.types.specs.declared.points.Vector2.{Vector2}
 use Rattle.types.specs.declared.points.Vector3.{Vector3}
 use Rattle.types.specs.declared.points.Cell2.{Cell2}
 use Rattle.types.specs.declared.points.Cell3.{Cell3}
 use Rattle.types.specs.declared.points.Extents2.{Extents2}
 use Rattle.types.specs.declared.points.Extents3.{Extents3}
 use Rattle.types.specs.declared.model.Model.{Model}
 use Rattle.types.specs.declared.model.Pair.{Pair}
 use Rattle.types.specs.declared.model.Bands.{Bands}
 use Rattle.types.specs.declared.samples.MapSample2.{MapSample2}
 use Rattle.types.specs.declared.samples.MapSample3.{MapSample3}
 use Rattle.types.specs.declared.beams.ScanBeam2.{ScanBeam2}
 use Rattle.types.specs.declared.beams.ScanBeam3.{ScanBeam3}
 use Rattle.types.specs.declared.beams.VerticalBeam.{VerticalBeam}
 use Rattle.types.specs.declared.beams.Clipped2.{Clipped2}
 use Rattle.types.specs.declared.beams.Clipped3.{Clipped3}
 use Rattle.types.specs.declared.beams.RayTermination.{RayTermination}
 use Rattle.types.specs.Points.{point2, point3, vector2, vector3, cell2, cell3, extents2, extents3}
 use Rattle.types.specs.Models.{modelOf, bandsOf}
 use Rattle.types.specs.Samples.{sample2, sample3}
 use Rattle.types.specs.Beams.{beam2, beam3, vertical, clipped2, clipped3}
-use Rattle.theorems.specs.OneAnswer.Law.{Injective, of-back}
+
+abbrev pub Injective : {A B : Type 0} → (A → B) → Type 0
+Injective {A} f = (a b : A) → f a ≡ f b → a ≡ b
+
+-- a map with a way back is injective
+pub of-back : {A B : Type 0} (f : A → B) (back : B → A) → ((a : A) → back (f a) ≡ a) → Injective f
+of-back f back there a b h = sym (there a) ∙ ap back h ∙ there b
 
 abbrev pub point2-back : List Float → Point2
 point2-back xs = record { x = getD xs 0 nan; y = getD xs 1 nan }

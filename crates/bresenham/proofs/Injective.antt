@@ -4,23 +4,22 @@ use mathlib.Core.Path.{_≡_, refl, ap}
 use lib.ListN.{getD}
 use lib.Ieee.{nan}
 use Rattle.rules.specs.TheLine as TheLine
-use Rattle.theorems.specs.OneAnswer.Law.{Injective, of-back}
-use Rattle.theorems.specs.OneAnswer.Values.{cell2-back, cell3-back}
-use Rattle.theorems.specs.OneAnswer.Answers.{answer-back, refusal-there}
+use Rattle.types.proofs.Injective.{Injective, of-back, cell2-back, cell3-back}
+use Rattle.types.proofs.InjectiveAnswers.{answer-back, refusal-there}
 use Rattle.bresenham.specs.declared.axis.Axis.{Axis}
 use Rattle.bresenham.specs.declared.axis.Primary.{Primary}
 use Rattle.bresenham.specs.declared.line.BresenhamLine2.{BresenhamLine2}
 use Rattle.bresenham.specs.declared.line.BresenhamLine3.{BresenhamLine3}
 use Rattle.bresenham.specs.declared.line.Plotted2.{Plotted2}
 use Rattle.bresenham.specs.declared.line.Plotted2.the-variants as P2
 use Rattle.bresenham.specs.declared.line.Plotted3.{Plotted3}
 use Rattle.bresenham.specs.declared.line.Plotted3.the-variants as P3
 use Rattle.bresenham.specs.declared.line.Step2.{Step2}
 use Rattle.bresenham.specs.declared.line.Step2.the-variants as S2
 use Rattle.bresenham.specs.declared.line.Step3.{Step3}
 use Rattle.bresenham.specs.declared.line.Step3.the-variants as S3
 use Rattle.bresenham.specs.Axes.{axis, primary}
 use Rattle.bresenham.specs.Lines.{line2, line3, plotted2, plotted3, step2, step3}
 
 abbrev pub axis-back : TheLine.Axis → Axis
 axis-back a = record { current = a .current; end = a .end; increment = a .increment; step = a .step; error = a .error }

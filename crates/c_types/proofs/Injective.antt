@@ -1,10 +1,10 @@
--- Nothing is lost on the way to C: from the struct that C sees, the entry's answer can be read back. Each has a way
--- back, by the refusal's number, and one law does the rest. Assumes nothing.
+-- Nothing is lost on the way to C: from the struct that C sees, the entry's answer can be read back. Each has a way back, by the refusal's
+-- number, and one law does the rest. Assumes nothing.
 use Prim.Native.Nat.{ℕ}
 use mathlib.Core.Path.{_≡_, refl}
 use mathlib.Core.Bool.{cond}
 use lib.Dec.{eqb}
-use Rattle.theorems.specs.OneAnswer.Law.{Injective, of-back}
+use Rattle.types.proofs.Injective.{Injective, of-back}
 use Rattle.types.specs.Refusals.{refusalOf}
 use Rattle.types.specs.Answers.{markAnswer, countAnswer, sweepAnswer, setAnswer, oddsAnswer, sampleAnswer2, sampleAnswer3, cellAnswer2, cellAnswer3}
 use Rattle.types.specs.declared.refusal.Refusal as Refusal

@@ -1,15 +1,13 @@
--- A map's head, and the answers that hold one, are fixed by what they stand for. Each map has a way back. Assumes
--- nothing.
+-- A map's head, and the answers that hold one, are fixed by what they stand for. Each map has a way back. Assumes nothing.
 use mathlib.Core.Path.{_≡_, refl, ap}
 use Rattle.rules.specs.TheGridAndItsBounds.{Head}
-use Rattle.theorems.specs.OneAnswer.Law.{Injective, of-back}
-use Rattle.theorems.specs.OneAnswer.Values.{extents2-back, extents3-back, model-back, bands-back}
-use Rattle.theorems.specs.OneAnswer.Answers.{answer-back, refusal-there}
+use Rattle.types.proofs.Injective.{Injective, of-back, extents2-back, extents3-back, model-back, bands-back}
+use Rattle.types.proofs.InjectiveAnswers.{answer-back, refusal-there}
 use Rattle.grid_map.specs.declared.map2.GridMap2.{GridMap2}
 use Rattle.grid_map.specs.declared.map3.GridMap3.{GridMap3}
 use Rattle.grid_map.specs.declared.map2.MapAnswer2 as MapAnswer2
 use Rattle.grid_map.specs.declared.map3.MapAnswer3 as MapAnswer3
 use Rattle.grid_map.specs.Heads.{head2, head3, mapAnswer2, mapAnswer3}
 
 abbrev head2-back : Head → GridMap2
 head2-back h = record { extents = extents2-back (h .extents); model = model-back (h .model); frame = record { 0 = h .frame } }

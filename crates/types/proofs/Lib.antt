@@ -1,0 +1,2 @@
+pub mod Injective
+pub mod InjectiveAnswers
