@@ -5,6 +5,7 @@
 pub mod Law
 pub mod Under
 pub mod Exceptions
+pub mod Examples
 pub mod Grids
 pub mod Helpers
 use Prim.Native.Nat.{ℕ}
