@@ -43,7 +43,7 @@ abbrev pub roomValues : List ℤ → CRefusal
 roomValues [] = plain 11
 roomValues (needed ∷ more) = inRoom (natAbs needed)
 
--- 10 and 12: "offset of the field", "with its offset"; 17: "with the column"; 13 to 15 and 18 to 21 have no values
+-- 10 and 12: "offset of the field", "with its offset"; 17: "with the column"; the others above 9 have no values
 abbrev pub placeValues : ℕ → List ℤ → CRefusal
 placeValues number [] = plain number
 placeValues number (place ∷ more) = atPlace number (natAbs place)
