@@ -19,7 +19,8 @@ static double odds[5 * 4 * 3];
 static uint32_t stamps[5 * 4 * 3];
 static double odds_read[5 * 4 * 3];
 static uint32_t stamps_read[5 * 4 * 3];
-static uint8_t bytes[600];
+static uint8_t bytes[1000];
+static uint8_t moved[1000];
 static const tembuzar_model model = {.occupied = 0.75, .free = -0.5, .ceiling = 4.0};
 
 /* Three axes: one height in each band, and the same pair in all, as a record of edition 1 keeps it. */
@@ -65,6 +66,69 @@ static void record_of_two_axes(tembuzar_map2 map)
            m.map.model.occupied, m.map.model.free, m.map.model.ceiling, m.map.frame);
     printf("             odds %g, all as written %d, stamp %x [0.75, 1, 0]\n",
            odds_read[11], memcmp(odds, odds_read, CELLS * sizeof *odds) == 0, stamps_read[11]);
+}
+
+static void edition2_of_two_axes(tembuzar_map2 map)
+{
+    enum { CELLS = 5 * 4, CLOSED = 49 + 4 * (3 + 8 * 5) + 3, OPEN = CLOSED + 4 * (3 + 4 * 5) };
+    memset(bytes, 170, sizeof bytes);
+    memset(odds_read, 0, sizeof odds_read);
+    memset(stamps_read, 170, sizeof stamps_read);
+    tembuzar_count_answer n = tembuzar_write_edition2_record2(map, true, odds, CELLS, stamps, CELLS - 1, bytes, OPEN);
+    printf("write_ed.2   number %u, values %u, first byte %u [4, 0, 170]\n",
+           n.refusal.number, n.refusal.values, bytes[0]);
+    n = tembuzar_write_edition2_record2(map, true, odds, CELLS, stamps, CELLS, bytes, OPEN - 1);
+    printf("write_ed.2   number %u, values %u, needed %lu, first byte %u [11, 1, 316, 170]\n",
+           n.refusal.number, n.refusal.values, n.refusal.needed, bytes[0]);
+    n = tembuzar_write_edition2_record2(map, true, odds, CELLS, stamps, CELLS, bytes, sizeof bytes);
+    printf("write_ed.2   number %u, count %lu, edition %u, extents %u %u, frame %u, open %u, end %u, next %u"
+           " [0, 316, 2, 5 4, 2, 1, 5, 170]\n",
+           n.refusal.number, n.count, bytes[3], bytes[7], bytes[9], bytes[41], bytes[48], bytes[OPEN - 3], bytes[OPEN]);
+    tembuzar_load_answer2 m = tembuzar_read_edition2_record2(bytes, 100, odds_read, CELLS, stamps_read, CELLS);
+    printf("read_ed.2    number %u, values %u, place %lu, odds %g, stamp %x [10, 1, 92, 0, aaaaaaaa]\n",
+           m.refusal.number, m.refusal.values, m.refusal.place, odds_read[11], stamps_read[11]);
+    m = tembuzar_read_edition2_record2(bytes, OPEN, odds_read, CELLS, stamps_read, CELLS);
+    printf("read_ed.2    number %u, %lu by %lu, model %g %g %g, frame %u, open %d [0, 5 by 4, 0.75 -0.5 4, 2, 1]\n",
+           m.refusal.number, m.map.extents.x, m.map.extents.y,
+           m.map.model.occupied, m.map.model.free, m.map.model.ceiling, m.map.frame, m.running);
+    printf("             odds %g, stamp %u, all as written %d %d [0.75, 5, 1 1]\n", odds_read[11], stamps_read[11],
+           memcmp(odds, odds_read, CELLS * sizeof *odds) == 0,
+           memcmp(stamps, stamps_read, CELLS * sizeof *stamps) == 0);
+    n = tembuzar_downgrade_record2(bytes, OPEN, moved, sizeof moved);
+    printf("downgrade    number %u, values %u, count %lu [16, 0, 0]\n", n.refusal.number, n.refusal.values, n.count);
+    n = tembuzar_write_edition2_record2(map, false, odds, CELLS, NULL, 0, bytes, sizeof bytes);
+    printf("write_ed.2   number %u, count %lu, open %u, end %u [0, 224, 0, 5]\n",
+           n.refusal.number, n.count, bytes[48], bytes[CLOSED - 3]);
+    m = tembuzar_read_edition2_record2(bytes, CLOSED, odds_read, CELLS, stamps_read, CELLS);
+    printf("read_ed.2    number %u, open %d, odds %g, stamp %x [0, 0, 0.75, 0]\n",
+           m.refusal.number, m.running, odds_read[11], stamps_read[11]);
+}
+
+/* A record of edition 1 up to edition 2 and back. */
+static void moves_of_two_axes(tembuzar_map2 map)
+{
+    enum { CELLS = 5 * 4, OLD = 41 + 4 * (3 + 8 * 5) + 3, NEW = OLD + 8 };
+    static uint8_t back[OLD];
+    tembuzar_write_record2(map, odds, CELLS, bytes, sizeof bytes);
+    memset(moved, 170, sizeof moved);
+    tembuzar_count_answer n = tembuzar_upgrade_record2(bytes, OLD - 1, moved, sizeof moved);
+    printf("upgrade      number %u, values %u, place %lu, first byte %u [10, 1, 213, 170]\n",
+           n.refusal.number, n.refusal.values, n.refusal.place, moved[0]);
+    n = tembuzar_upgrade_record2(bytes, OLD, moved, NEW - 1);
+    printf("upgrade      number %u, values %u, needed %lu, first byte %u [11, 1, 224, 170]\n",
+           n.refusal.number, n.refusal.values, n.refusal.needed, moved[0]);
+    n = tembuzar_upgrade_record2(bytes, OLD, moved, sizeof moved);
+    printf("upgrade      number %u, count %lu, edition %u, frame %u, open %u, next %u [0, 224, 2, 2, 0, 170]\n",
+           n.refusal.number, n.count, moved[3], moved[41], moved[48], moved[NEW]);
+    n = tembuzar_downgrade_record2(moved, NEW, back, OLD - 1);
+    printf("downgrade    number %u, values %u, needed %lu, first byte %u [11, 1, 216, 0]\n",
+           n.refusal.number, n.refusal.values, n.refusal.needed, back[0]);
+    n = tembuzar_downgrade_record2(bytes, OLD, back, OLD);
+    printf("downgrade    number %u, values %u, place %lu [10, 1, 0]\n",
+           n.refusal.number, n.refusal.values, n.refusal.place);
+    n = tembuzar_downgrade_record2(moved, NEW, back, OLD);
+    printf("downgrade    number %u, count %lu, as it was %d [0, 216, 1]\n",
+           n.refusal.number, n.count, memcmp(bytes, back, OLD) == 0);
 }
 
 static void two_axes(void)
@@ -117,6 +181,8 @@ static void two_axes(void)
         printf(" (%ld,%ld)", t.cell.x, t.cell.y);
     printf(", then none [(0,0) (0,0) (-1,1)]\n");
     record_of_two_axes(m.map);
+    edition2_of_two_axes(m.map);
+    moves_of_two_axes(m.map);
     m = tembuzar_reset2(m.map, odds, CELLS, stamps, CELLS);
     printf("reset        number %u, frame %u, odds %g, stamp %u [0, 1, 0, 0]\n",
            m.refusal.number, m.map.frame, odds[11], stamps[11]);
@@ -217,6 +283,77 @@ static void record_of_three_axes(tembuzar_map3 map)
            odds_read[11], memcmp(odds, odds_read, CELLS * sizeof *odds) == 0, stamps_read[11]);
 }
 
+static void edition2_of_three_axes(tembuzar_map3 map)
+{
+    enum { CELLS = 5 * 4 * 3, CLOSED = 112 + 4 * 3 * (3 + 8 * 5) + 3, OPEN = CLOSED + 4 * 3 * (3 + 4 * 5) };
+    memset(bytes, 170, sizeof bytes);
+    memset(odds_read, 0, sizeof odds_read);
+    memset(stamps_read, 170, sizeof stamps_read);
+    map.bands.middle = (tembuzar_pair){0.5, -0.25};
+    map.bands.high = (tembuzar_pair){0.375, -0.125};
+    tembuzar_count_answer n = tembuzar_write_edition2_record3(map, true, odds, CELLS, stamps, CELLS, bytes, OPEN - 1);
+    printf("write_ed.2   number %u, values %u, needed %lu, first byte %u [11, 1, 907, 170]\n",
+           n.refusal.number, n.refusal.values, n.refusal.needed, bytes[0]);
+    n = tembuzar_write_edition2_record3(map, true, odds, CELLS, stamps, CELLS, bytes, sizeof bytes);
+    printf("write_ed.2   number %u, count %lu, edition %u, extents %u %u %u, cuts %u %u [0, 907, 2, 5 4 3, 1 2]\n",
+           n.refusal.number, n.count, bytes[3], bytes[7], bytes[9], bytes[11], bytes[97], bytes[99]);
+    printf("             frame %u, open %u, end %u, next %u [2, 1, 5, 170]\n",
+           bytes[104], bytes[111], bytes[OPEN - 3], bytes[OPEN]);
+    tembuzar_load_answer3 m = tembuzar_read_edition2_record3(bytes, 200, odds_read, CELLS, stamps_read, CELLS);
+    printf("read_ed.2    number %u, values %u, place %lu, odds %g, stamp %x [10, 1, 178, 0, aaaaaaaa]\n",
+           m.refusal.number, m.refusal.values, m.refusal.place, odds_read[11], stamps_read[11]);
+    m = tembuzar_read_edition2_record3(bytes, OPEN, odds_read, CELLS, stamps_read, CELLS);
+    printf("read_ed.2    number %u, %lu by %lu by %lu, ceiling %g, cuts %lu %lu, frame %u, open %d"
+           " [0, 5 by 4 by 3, 4, 1 2, 2, 1]\n",
+           m.refusal.number, m.map.extents.x, m.map.extents.y, m.map.extents.z, m.map.bands.ceiling,
+           m.map.bands.cuts.first, m.map.bands.cuts.second, m.map.frame, m.running);
+    printf("             pairs (%g, %g) (%g, %g) (%g, %g) [(0.75, -0.5) (0.5, -0.25) (0.375, -0.125)]\n",
+           m.map.bands.low.occupied, m.map.bands.low.free, m.map.bands.middle.occupied, m.map.bands.middle.free,
+           m.map.bands.high.occupied, m.map.bands.high.free);
+    printf("             odds %g, stamp %u, all as written %d %d [0.75, 5, 1 1]\n", odds_read[11], stamps_read[11],
+           memcmp(odds, odds_read, CELLS * sizeof *odds) == 0,
+           memcmp(stamps, stamps_read, CELLS * sizeof *stamps) == 0);
+    stamps[11] = 6;
+    n = tembuzar_write_edition2_record3(map, true, odds, CELLS, stamps, CELLS, bytes, sizeof bytes);
+    printf("write_ed.2   number %u, values %u, place %lu [10, 1, 287]\n",
+           n.refusal.number, n.refusal.values, n.refusal.place);
+    stamps[11] = 5;
+    n = tembuzar_write_edition2_record3(map, false, odds, CELLS, NULL, 0, bytes, sizeof bytes);
+    printf("write_ed.2   number %u, count %lu, open %u, end %u [0, 631, 0, 5]\n",
+           n.refusal.number, n.count, bytes[111], bytes[CLOSED - 3]);
+    tembuzar_move_answer b = tembuzar_downgrade_record3(bytes, CLOSED, moved, sizeof moved);
+    printf("downgrade    number %u, values %u, count %lu, cuts %lu %lu [16, 0, 0, 0 0]\n",
+           b.refusal.number, b.refusal.values, b.count, b.cuts.first, b.cuts.second);
+}
+
+static void moves_of_three_axes(tembuzar_map3 map)
+{
+    enum { CELLS = 5 * 4 * 3, OLD = 43 + 4 * 3 * (3 + 8 * 5) + 3, NEW = OLD + 69 };
+    static uint8_t back[OLD];
+    tembuzar_write_record3(map, odds, CELLS, bytes, sizeof bytes);
+    memset(moved, 170, sizeof moved);
+    tembuzar_count_answer n = tembuzar_upgrade_record3(bytes, OLD, (tembuzar_cuts){1, 3}, moved, NEW - 1);
+    printf("upgrade      number %u, values %u, first byte %u [15, 0, 170]\n",
+           n.refusal.number, n.refusal.values, moved[0]);
+    n = tembuzar_upgrade_record3(bytes, OLD, bands.cuts, moved, NEW - 1);
+    printf("upgrade      number %u, values %u, needed %lu, first byte %u [11, 1, 631, 170]\n",
+           n.refusal.number, n.refusal.values, n.refusal.needed, moved[0]);
+    n = tembuzar_upgrade_record3(bytes, OLD, bands.cuts, moved, sizeof moved);
+    printf("upgrade      number %u, count %lu, edition %u, cuts %u %u, frame %u, open %u, next %u"
+           " [0, 631, 2, 1 2, 2, 0, 170]\n",
+           n.refusal.number, n.count, moved[3], moved[97], moved[99], moved[104], moved[111], moved[NEW]);
+    tembuzar_load_answer3 m = tembuzar_read_edition2_record3(moved, NEW, odds_read, CELLS, stamps_read, CELLS);
+    printf("read_ed.2    number %u, open %d, bands %d, odds %d, stamp %x [0, 0, 1, 1, 0]\n",
+           m.refusal.number, m.running, memcmp(&m.map.bands, &bands, sizeof bands) == 0,
+           memcmp(odds, odds_read, CELLS * sizeof *odds) == 0, stamps_read[11]);
+    tembuzar_move_answer b = tembuzar_downgrade_record3(moved, NEW, back, OLD - 1);
+    printf("downgrade    number %u, values %u, needed %lu, count %lu, cuts %lu %lu [11, 1, 562, 0, 0 0]\n",
+           b.refusal.number, b.refusal.values, b.refusal.needed, b.count, b.cuts.first, b.cuts.second);
+    b = tembuzar_downgrade_record3(moved, NEW, back, OLD);
+    printf("downgrade    number %u, count %lu, cuts %lu %lu, as it was %d [0, 562, 1 2, 1]\n",
+           b.refusal.number, b.count, b.cuts.first, b.cuts.second, memcmp(bytes, back, OLD) == 0);
+}
+
 static void three_axes(void)
 {
     enum { CELLS = 5 * 4 * 3 };
@@ -268,6 +405,8 @@ static void three_axes(void)
         printf(" (%ld,%ld,%ld)", t.cell.x, t.cell.y, t.cell.z);
     printf(", then none [(0,0,2) (0,0,2) (-1,1,2)]\n");
     record_of_three_axes(m.map);
+    edition2_of_three_axes(m.map);
+    moves_of_three_axes(m.map);
     m = tembuzar_reset3(m.map, odds, CELLS, stamps, CELLS);
     printf("reset        number %u, frame %u, odds %g, stamp %u [0, 1, 0, 0]\n",
            m.refusal.number, m.map.frame, odds[11], stamps[11]);

@@ -27,9 +27,9 @@
  *
  *   1. A list is a pointer to its first element and the number of its elements. The elements are there, aligned
  *      as C aligns their type, and not touched by another thread during the call. They are set, except that new, reset
- *      and read_record take odds and stamps that are not, write_record and write_sweep an output, sample_all_log_odds
- *      samples and found, layer_chart a chart, and start_report a report. Where the number is 0, the pointer may be
- *      NULL.
+ *      and those that read a record take odds and stamps that are not, those that write or move a record and
+ *      write_sweep an output, sample_all_log_odds samples and found, layer_chart a chart, and start_report a report.
+ *      Where the number is 0, the pointer may be NULL.
  *   2. Where a call takes several lists, those that it may change (those not const) overlap no other of its lists.
  *   3. A bool is true or false, in a list of beams too.
  *   4. A pointer to a head, which open_scan takes, is not NULL. The head is there, set, aligned and untouched by
@@ -61,9 +61,9 @@ extern "C" {
 #endif
 
 /* The version of this header, and of the libraries that are written from the same source. */
-#define TEMBUZAR_VERSION "0.13.0"
+#define TEMBUZAR_VERSION "0.14.0"
 #define TEMBUZAR_VERSION_MAJOR 0
-#define TEMBUZAR_VERSION_MINOR 13
+#define TEMBUZAR_VERSION_MINOR 14
 #define TEMBUZAR_VERSION_PATCH 0
 
 /* The bounds of a map: 2 to 4,096 cells along each axis, at most 16,777,216 in all. */
@@ -95,6 +95,8 @@ enum tembuzar_number {
     TEMBUZAR_ODDS = 13,                 /* the odds are not a number */
     TEMBUZAR_LISTS = 14,                /* points, samples and marks are not for the same number of points */
     TEMBUZAR_CUTS = 15,                 /* the cuts are not 0 < first < second < extents.z, or the map has two axes */
+    TEMBUZAR_EDITION = 16,              /* a record of edition 2 that edition 1 cannot hold: its sweep is open, or its
+                                           pairs are not all equal */
     TEMBUZAR_COLUMN = 17,               /* a column of a chart holds NaN. Gives place: the column (the first such) */
     TEMBUZAR_PROFILE = 18,              /* a vertical beam is outside its profile: see tembuzar_update_vertical3 */
     TEMBUZAR_SIZES = 19,                /* a report, its charts or another report are not of the same size */
@@ -276,6 +278,13 @@ typedef struct tembuzar_sweep_answer {
     uint64_t count;
 } tembuzar_sweep_answer;
 
+/* How many bytes a record moved back to edition 1 has there, and the cuts, which it has not. */
+typedef struct tembuzar_move_answer {
+    tembuzar_refusal refusal;
+    uint64_t count;
+    tembuzar_cuts cuts;
+} tembuzar_move_answer;
+
 /* One cell's odds; not found off the grid, which is no refusal. */
 typedef struct tembuzar_odds_answer {
     tembuzar_refusal refusal;
@@ -287,6 +296,13 @@ typedef struct tembuzar_map_answer2 {
     tembuzar_refusal refusal;
     tembuzar_map2 map;
 } tembuzar_map_answer2;
+
+/* The map of a record of edition 2, and whether its sweep is open. */
+typedef struct tembuzar_load_answer2 {
+    tembuzar_refusal refusal;
+    tembuzar_map2 map;
+    bool running;
+} tembuzar_load_answer2;
 
 typedef struct tembuzar_cell_answer2 {
     tembuzar_refusal refusal;
@@ -316,6 +332,12 @@ typedef struct tembuzar_map_answer3 {
     tembuzar_refusal refusal;
     tembuzar_map3 map;
 } tembuzar_map_answer3;
+
+typedef struct tembuzar_load_answer3 {
+    tembuzar_refusal refusal;
+    tembuzar_map3 map;
+    bool running;
+} tembuzar_load_answer3;
 
 typedef struct tembuzar_cell_answer3 {
     tembuzar_refusal refusal;
@@ -500,7 +522,7 @@ tembuzar_line_answer3 tembuzar_plotter3(tembuzar_point3 start, tembuzar_point3 e
 
 tembuzar_step_answer3 tembuzar_step3(tembuzar_line3 line);
 
-/* ---- Records: a map as bytes, to be kept between sweeps ----
+/* ---- Records: a map as bytes, to be kept between sweeps. This is edition 1; edition 2 follows ----
  *
  * A record holds a map's extents, model, frame and odds, and no stamps. It is fields without gaps, all numbers
  * little-endian; a field is a tag, 1 byte, the length of its data, 2 bytes, and its data. In this order:
@@ -519,7 +541,7 @@ tembuzar_step_answer3 tembuzar_step3(tembuzar_line3 line);
  * when the record was written is over: the next one starts with tembuzar_begin_scan2.
  * Refuses with 10, 4. 10: a field is cut short or absent, has another tag or length, or holds extents, a model, a frame
  * or odds out of bounds, or something follows the end; place is the offset of the first such field, or of what follows.
- * A record of three axes is broken at offset 0 for two, and one of two for three. */
+ * A record of three axes is broken at offset 0 for two, and one of two for three; so is a record of edition 2. */
 tembuzar_map_answer2 tembuzar_read_record2(const uint8_t *bytes, size_t bytes_count,
                                            double *odds, size_t odds_count, uint32_t *stamps, size_t stamps_count);
 
@@ -539,6 +561,86 @@ tembuzar_map_answer3 tembuzar_read_record3(const uint8_t *bytes, size_t bytes_co
 
 tembuzar_count_answer tembuzar_write_record3(tembuzar_map3 map, const double *odds, size_t odds_count,
                                              uint8_t *out, size_t out_count);
+
+/* ---- Edition 2 of the map record: also in the middle of a sweep, and with the bands of three axes ----
+ *
+ * Edition 2 holds what edition 1 does; on three axes also the pair of each band and the cuts; and of an open sweep the
+ * stamps, so that the sweep can go on from the record. Its fields are as those above. In this order:
+ *
+ *   tag 6: the edition, 1 byte, 2
+ *   tag 1: the extents, as in edition 1
+ *   tag 2: occupied, free and ceiling, 24 bytes; on three axes one such field for each band, low, middle, high, all
+ *          with the same ceiling, bit for bit
+ *   tag 7: the cuts, first, then second, 2 bytes each; on three axes only
+ *   tag 3: the frame, 4 bytes
+ *   tag 8: the open mark, 1 byte, 1 for a record whose sweep is open and 0 for a closed one
+ *   tag 4: a row of odds along x, 8 * extents.x bytes; one for every row, in the order of the cells
+ *   tag 9: of an open record, after each row of odds, the stamps of the same cells, 4 * extents.x bytes. None of them
+ *          is of a frame above the record's: no stamp divided by 2, rounded down, is above it
+ *   tag 5: nothing; the end
+ *
+ * So there are 49 bytes before the rows for two axes and 112 for three, 3 + 8 * extents.x bytes for each row of odds,
+ * 3 + 4 * extents.x for each row of stamps, and 3 bytes at the end. A map of 2 by 2 has 90 bytes closed and 112 open,
+ * one of 2 by 2 by 3 has 229 and 295.
+ * Each function tries everything before it writes anything: a refused call writes nothing. */
+
+/* The map of a record: its head, with the record's frame, and whether its sweep is open; odds become the record's.
+ * Where running is true, stamps become the record's, and the sweep goes on: its next beams need no
+ * tembuzar_begin_scan2. Where it is false, stamps become 0, and the next sweep starts with tembuzar_begin_scan2.
+ * Refuses with 10, 4. 10: a field is cut short or absent, has another tag or length, or holds something out of its
+ * bounds (an edition that is not 2, an open mark that is neither 0 nor 1, another ceiling than the first pair's, cuts
+ * that do not fit the extents, a stamp of a frame above the record's), or something follows the end; place is the
+ * offset of the first such field, or of what follows. A record of edition 1 is broken at offset 0; one of three axes is
+ * broken at offset 4 for two, and one of two for three. */
+tembuzar_load_answer2 tembuzar_read_edition2_record2(const uint8_t *bytes, size_t bytes_count,
+                                                     double *odds, size_t odds_count,
+                                                     uint32_t *stamps, size_t stamps_count);
+
+/* The record of a map, from the first byte of out on; what follows it in out stays. The count is of its bytes. Whether
+ * the sweep is open is what the caller says: where running is true, the record has the stamps; where it is false, it
+ * has none and none are looked at, so that stamps may be of any number, or NULL and 0.
+ * Refuses with 1, 2, 3, 4, 9, 10, 11. 4: odds are not one for each cell or, where running is true, stamps are not.
+ * 10: odds do not lie from the floor to the ceiling, or are NaN, or, where running is true, a stamp is of a frame above
+ * the map's; place is the offset that the first such row would have in the record, a row of odds before its stamps.
+ * 11: out is shorter than the record; needed is how many bytes the record has, so that a call with 0 bytes of out asks
+ * for the size. */
+tembuzar_count_answer tembuzar_write_edition2_record2(tembuzar_map2 map, bool running,
+                                                      const double *odds, size_t odds_count,
+                                                      const uint32_t *stamps, size_t stamps_count,
+                                                      uint8_t *out, size_t out_count);
+
+/* The same for three axes, with the pairs and the cuts of the record, or of the map: reading takes no cuts, and writing
+ * asks for no equal pairs. Writing refuses bad cuts with 15, after 3 and before 4. */
+tembuzar_load_answer3 tembuzar_read_edition2_record3(const uint8_t *bytes, size_t bytes_count,
+                                                     double *odds, size_t odds_count,
+                                                     uint32_t *stamps, size_t stamps_count);
+
+tembuzar_count_answer tembuzar_write_edition2_record3(tembuzar_map3 map, bool running,
+                                                      const double *odds, size_t odds_count,
+                                                      const uint32_t *stamps, size_t stamps_count,
+                                                      uint8_t *out, size_t out_count);
+
+/* Moves a record from edition 1 to edition 2: writes the closed record of edition 2 of the same map, from the first
+ * byte of out on; what follows it in out stays. The count is of its bytes. out overlaps no byte of the record.
+ * Refuses with 10, 11. 10: bytes are no record of edition 1; place is as for tembuzar_read_record2. 11: needed is how
+ * many bytes the record of edition 2 has. */
+tembuzar_count_answer tembuzar_upgrade_record2(const uint8_t *bytes, size_t bytes_count,
+                                               uint8_t *out, size_t out_count);
+
+/* Moves a record back, from edition 2 to edition 1. The count is of the bytes of the record of edition 1; the rest is
+ * as above. Refuses with 10, 16, 11. 10: bytes are no record of edition 2; place is as for
+ * tembuzar_read_edition2_record2. 16: its sweep is open. 11: needed is how many bytes the record of edition 1 has. */
+tembuzar_count_answer tembuzar_downgrade_record2(const uint8_t *bytes, size_t bytes_count,
+                                                 uint8_t *out, size_t out_count);
+
+/* The same for three axes. Up, every band has the record's pair, and the cuts are the caller's; cuts that do not fit
+ * the record's extents are refused with 15, after 10 and before 11. Back, 16 also where the pairs of the bands are not
+ * all equal, bit for bit, and the record's cuts are handed to the caller, for edition 1 has none. */
+tembuzar_count_answer tembuzar_upgrade_record3(const uint8_t *bytes, size_t bytes_count, tembuzar_cuts cuts,
+                                               uint8_t *out, size_t out_count);
+
+tembuzar_move_answer tembuzar_downgrade_record3(const uint8_t *bytes, size_t bytes_count,
+                                                uint8_t *out, size_t out_count);
 
 /* ---- Sweep files: the beams of one sweep as bytes, as a station mails them ----
  *

@@ -6,12 +6,13 @@ use mathlib.Core.Bool.{cond}
 use lib.Dec.{eqb}
 use Rattle.types.proofs.Injective.{Injective, of-back}
 use Rattle.types.specs.Refusals.{refusalOf}
-use Rattle.types.specs.Answers.{markAnswer, countAnswer, sweepAnswer, setAnswer, oddsAnswer, sampleAnswer2, sampleAnswer3, cellAnswer2, cellAnswer3}
+use Rattle.types.specs.Answers.{markAnswer, countAnswer, sweepAnswer, moveAnswer, setAnswer, oddsAnswer, sampleAnswer2, sampleAnswer3, cellAnswer2, cellAnswer3}
 use Rattle.types.specs.declared.refusal.Refusal as Refusal
 use Rattle.types.specs.declared.refusal.Refusal.the-variants as R
 use Rattle.types.specs.declared.answers.MarkAnswer as Mark
 use Rattle.types.specs.declared.answers.CountAnswer as Count
 use Rattle.types.specs.declared.answers.SweepAnswer as Sweep
+use Rattle.types.specs.declared.answers.MoveAnswer as Move
 use Rattle.types.specs.declared.answers.SetAnswer as Set
 use Rattle.types.specs.declared.answers.CellRead as CellRead
 use Rattle.types.specs.declared.answers.OddsAnswer as Odds
@@ -21,9 +22,11 @@ use Rattle.types.specs.declared.answers.SampleAnswer2 as Sample2
 use Rattle.types.specs.declared.answers.SampleAnswer3 as Sample3
 use Rattle.types.specs.declared.answers.CellAnswer2 as Cell2
 use Rattle.types.specs.declared.answers.CellAnswer3 as Cell3
-use Rattle.grid_map.specs.Heads.{mapAnswer2, mapAnswer3}
+use Rattle.grid_map.specs.Heads.{mapAnswer2, mapAnswer3, loadAnswer2, loadAnswer3}
 use Rattle.grid_map.specs.declared.map2.MapAnswer2 as Map2
 use Rattle.grid_map.specs.declared.map3.MapAnswer3 as Map3
+use Rattle.grid_map.specs.declared.map2.LoadAnswer2 as Load2
+use Rattle.grid_map.specs.declared.map3.LoadAnswer3 as Load3
 use Rattle.bresenham.specs.Lines.{plotted2, plotted3, step2, step3}
 use Rattle.bresenham.specs.declared.line.BresenhamLine2.{BresenhamLine2}
 use Rattle.bresenham.specs.declared.line.BresenhamLine3.{BresenhamLine3}
@@ -35,19 +38,22 @@ use Rattle.c_types.specs.declared.refusals.CRefusal.{CRefusal}
 use Rattle.c_types.specs.declared.answers.CMarkAnswer.{CMarkAnswer}
 use Rattle.c_types.specs.declared.answers.CCountAnswer.{CCountAnswer}
 use Rattle.c_types.specs.declared.answers.CSweepAnswer.{CSweepAnswer}
+use Rattle.c_types.specs.declared.answers.CMoveAnswer.{CMoveAnswer}
 use Rattle.c_types.specs.declared.answers.COddsAnswer.{COddsAnswer}
 use Rattle.c_types.specs.declared.answers2.CMapAnswer2.{CMapAnswer2}
+use Rattle.c_types.specs.declared.answers2.CLoadAnswer2.{CLoadAnswer2}
 use Rattle.c_types.specs.declared.answers2.CCellAnswer2.{CCellAnswer2}
 use Rattle.c_types.specs.declared.answers2.CSampleAnswer2.{CSampleAnswer2}
 use Rattle.c_types.specs.declared.lines.CLineAnswer2.{CLineAnswer2}
 use Rattle.c_types.specs.declared.lines.CStep2.{CStep2}
 use Rattle.c_types.specs.declared.answers3.CMapAnswer3.{CMapAnswer3}
+use Rattle.c_types.specs.declared.answers3.CLoadAnswer3.{CLoadAnswer3}
 use Rattle.c_types.specs.declared.answers3.CCellAnswer3.{CCellAnswer3}
 use Rattle.c_types.specs.declared.answers3.CSampleAnswer3.{CSampleAnswer3}
 use Rattle.c_types.specs.declared.lines.CLineAnswer3.{CLineAnswer3}
 use Rattle.c_types.specs.declared.lines.CStep3.{CStep3}
 use Rattle.c_types.specs.Refusals.{cRefusal}
-use Rattle.c_types.specs.Answers.{cMark, cCount, cSweep, cSet, cOdds, cMap2, cMap3, cCell2, cCell3, cSample2, cSample3}
+use Rattle.c_types.specs.Answers.{cMark, cCount, cSweep, cMove, cSet, cOdds, cMap2, cMap3, cLoad2, cLoad3, cCell2, cCell3, cSample2, cSample3}
 use Rattle.c_types.specs.Lines.{cLine2, cLine3, cStep2, cStep3}
 
 -- the refusal with a number; 7 has two cases, told apart by how many values it gives
@@ -69,10 +75,11 @@ refusal-back c =
     (cond (eqb n 13) R.Odds
     (cond (eqb n 14) R.Lists
     (cond (eqb n 15) R.Cuts
+    (cond (eqb n 16) R.Edition
     (cond (eqb n 18) R.Profile
     (cond (eqb n 17) (R.Column (c .place))
     (cond (eqb n 19) R.Sizes
-    (cond (eqb n 20) R.Charts R.Chart))))))))))))))))))
+    (cond (eqb n 20) R.Charts R.Chart)))))))))))))))))))
 
 -- an answer where the number is 0, else the refusal
 abbrev read-back : {T : Type 0} → T → (Refusal.Refusal → T) → CRefusal → T
@@ -95,6 +102,7 @@ refused-there ok not-ok (R.Sweep offset) = refl
 refused-there ok not-ok R.Odds = refl
 refused-there ok not-ok R.Lists = refl
 refused-there ok not-ok R.Cuts = refl
+refused-there ok not-ok R.Edition = refl
 refused-there ok not-ok R.Profile = refl
 refused-there ok not-ok (R.Column column) = refl
 refused-there ok not-ok R.Sizes = refl
@@ -131,6 +139,16 @@ sweep-there (Sweep.the-variants.Refused r) = refused-there _ Sweep.the-variants.
 pub sweep-injective : Injective (λ a. cSweep (sweepAnswer a))
 sweep-injective = of-back (λ a. cSweep (sweepAnswer a)) sweep-back sweep-there
 
+abbrev move-back : CMoveAnswer → Move.MoveAnswer
+move-back c = read-back (Move.the-variants.Moved (c .count) (c .cuts)) Move.the-variants.Refused (c .refusal)
+
+move-there : (a : Move.MoveAnswer) → move-back (cMove (moveAnswer a)) ≡ a
+move-there (Move.the-variants.Moved size cuts) = refl
+move-there (Move.the-variants.Refused r) = refused-there _ Move.the-variants.Refused r
+
+pub move-injective : Injective (λ a. cMove (moveAnswer a))
+move-injective = of-back (λ a. cMove (moveAnswer a)) move-back move-there
+
 abbrev set-back : CRefusal → Set.SetAnswer
 set-back c = read-back Set.the-variants.Done Set.the-variants.Refused (c)
 
@@ -162,6 +180,16 @@ map2-there (Map2.the-variants.Refused r) = refused-there _ Map2.the-variants.Ref
 
 pub map2-injective : Injective (λ a. cMap2 (mapAnswer2 a))
 map2-injective = of-back (λ a. cMap2 (mapAnswer2 a)) map2-back map2-there
+
+abbrev load2-back : CLoadAnswer2 → Load2.LoadAnswer2
+load2-back c = read-back (Load2.the-variants.Record (c .map) (c .running)) Load2.the-variants.Refused (c .refusal)
+
+load2-there : (a : Load2.LoadAnswer2) → load2-back (cLoad2 (loadAnswer2 a)) ≡ a
+load2-there (Load2.the-variants.Record map running) = refl
+load2-there (Load2.the-variants.Refused r) = refused-there _ Load2.the-variants.Refused r
+
+pub load2-injective : Injective (λ a. cLoad2 (loadAnswer2 a))
+load2-injective = of-back (λ a. cLoad2 (loadAnswer2 a)) load2-back load2-there
 
 abbrev cell2-back : CCellAnswer2 → Cell2.CellAnswer2
 cell2-back c = read-back (Cell2.the-variants.Cell (c .cell)) Cell2.the-variants.Refused (c .refusal)
@@ -214,6 +242,16 @@ map3-there (Map3.the-variants.Refused r) = refused-there _ Map3.the-variants.Ref
 
 pub map3-injective : Injective (λ a. cMap3 (mapAnswer3 a))
 map3-injective = of-back (λ a. cMap3 (mapAnswer3 a)) map3-back map3-there
+
+abbrev load3-back : CLoadAnswer3 → Load3.LoadAnswer3
+load3-back c = read-back (Load3.the-variants.Record (c .map) (c .running)) Load3.the-variants.Refused (c .refusal)
+
+load3-there : (a : Load3.LoadAnswer3) → load3-back (cLoad3 (loadAnswer3 a)) ≡ a
+load3-there (Load3.the-variants.Record map running) = refl
+load3-there (Load3.the-variants.Refused r) = refused-there _ Load3.the-variants.Refused r
+
+pub load3-injective : Injective (λ a. cLoad3 (loadAnswer3 a))
+load3-injective = of-back (λ a. cLoad3 (loadAnswer3 a)) load3-back load3-there
 
 abbrev cell3-back : CCellAnswer3 → Cell3.CellAnswer3
 cell3-back c = read-back (Cell3.the-variants.Cell (c .cell)) Cell3.the-variants.Refused (c .refusal)

@@ -10,6 +10,7 @@ use lib.Ieee.{Float}
 use Rattle.rules.specs.Floats.{zeroF}
 use Rattle.rules.specs.RefusalNumbers.{Answer, given, refused}
 use Rattle.rules.specs.RefusalNumbers.Entries.{Outcome}
+use Rattle.rules.specs.RefusalNumbers.Editions.{Loaded, Moved}
 use Rattle.rules.specs.TheGridAndItsBounds.{Head}
 use Rattle.rules.specs.Coordinates.{Sample}
 use Rattle.rules.specs.SweepFile.{Swept}
@@ -17,15 +18,18 @@ use Rattle.c_types.specs.declared.refusals.CRefusal.{CRefusal}
 use Rattle.c_types.specs.declared.answers.CMarkAnswer.{CMarkAnswer}
 use Rattle.c_types.specs.declared.answers.CCountAnswer.{CCountAnswer}
 use Rattle.c_types.specs.declared.answers.CSweepAnswer.{CSweepAnswer}
+use Rattle.c_types.specs.declared.answers.CMoveAnswer.{CMoveAnswer}
 use Rattle.c_types.specs.declared.answers.COddsAnswer.{COddsAnswer}
 use Rattle.c_types.specs.declared.answers2.CMapAnswer2.{CMapAnswer2}
+use Rattle.c_types.specs.declared.answers2.CLoadAnswer2.{CLoadAnswer2}
 use Rattle.c_types.specs.declared.answers2.CCellAnswer2.{CCellAnswer2}
 use Rattle.c_types.specs.declared.answers2.CSampleAnswer2.{CSampleAnswer2}
 use Rattle.c_types.specs.declared.answers3.CMapAnswer3.{CMapAnswer3}
+use Rattle.c_types.specs.declared.answers3.CLoadAnswer3.{CLoadAnswer3}
 use Rattle.c_types.specs.declared.answers3.CCellAnswer3.{CCellAnswer3}
 use Rattle.c_types.specs.declared.answers3.CSampleAnswer3.{CSampleAnswer3}
 use Rattle.c_types.specs.Refusals.{plain, cRefusal}
-use Rattle.c_types.specs.Structs.{cellOf2, cellOf3, mapOf2, mapOf3, sampleOf2, sampleOf3, noMap, noSample}
+use Rattle.c_types.specs.Structs.{cellOf2, cellOf3, mapOf2, mapOf3, cutsFrom, sampleOf2, sampleOf3, noMap, noSample}
 
 abbrev pub cMark : Answer Bool → CMarkAnswer
 cMark (given b) = record { refusal = plain 0; changed = b }
@@ -38,6 +42,10 @@ cCount (refused r) = record { refusal = cRefusal r; count = 0 }
 abbrev pub cSweep : Answer Swept → CSweepAnswer
 cSweep (given s) = record { refusal = plain 0; station = s .station; count = s .count }
 cSweep (refused r) = record { refusal = cRefusal r; station = 0; count = 0 }
+
+abbrev pub cMove : Answer Moved → CMoveAnswer
+cMove (given m) = record { refusal = plain 0; count = m .size; cuts = cutsFrom (m .cuts) }
+cMove (refused r) = record { refusal = cRefusal r; count = 0; cuts = cutsFrom [] }
 
 abbrev pub cSet : Answer (Unit {0}) → CRefusal
 cSet (given _) = plain 0
@@ -58,6 +66,14 @@ cMap2 (refused r) = record { refusal = cRefusal r; map = mapOf2 noMap }
 abbrev pub cMap3 : Answer Head → CMapAnswer3
 cMap3 (given h) = record { refusal = plain 0; map = mapOf3 h }
 cMap3 (refused r) = record { refusal = cRefusal r; map = mapOf3 noMap }
+
+abbrev pub cLoad2 : Answer Loaded → CLoadAnswer2
+cLoad2 (given l) = record { refusal = plain 0; map = mapOf2 (l .head); running = l .running }
+cLoad2 (refused r) = record { refusal = cRefusal r; map = mapOf2 noMap; running = false }
+
+abbrev pub cLoad3 : Answer Loaded → CLoadAnswer3
+cLoad3 (given l) = record { refusal = plain 0; map = mapOf3 (l .head); running = l .running }
+cLoad3 (refused r) = record { refusal = cRefusal r; map = mapOf3 noMap; running = false }
 
 abbrev pub cCell2 : Answer (List ℤ) → CCellAnswer2
 cCell2 (given c) = record { refusal = plain 0; cell = cellOf2 c }

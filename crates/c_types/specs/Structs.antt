@@ -16,6 +16,7 @@ use Rattle.types.specs.declared.points.Extents2.{Extents2}
 use Rattle.types.specs.declared.points.Extents3.{Extents3}
 use Rattle.types.specs.declared.model.Model.{Model}
 use Rattle.types.specs.declared.model.Pair.{Pair}
+use Rattle.types.specs.declared.model.Cuts.{Cuts}
 use Rattle.types.specs.declared.model.Bands.{Bands}
 use Rattle.types.specs.declared.samples.MapSample2.{MapSample2}
 use Rattle.types.specs.declared.samples.MapSample3.{MapSample3}
@@ -68,6 +69,9 @@ mapOf2 h = record { extents = extentsOf2 (h .extents); model = modelFrom (h .mod
 
 abbrev pub mapOf3 : Grid.Head → GridMap3
 mapOf3 h = record { extents = extentsOf3 (h .extents); bands = bandsFrom (h .model); frame = record { 0 = h .frame } }
+
+abbrev pub cutsFrom : List ℕ → Cuts
+cutsFrom c = record { first = getD c 0 0; second = getD c 1 0 }
 
 abbrev pub sampleOf2 : Sample → MapSample2
 sampleOf2 s = record { value = s .value; gradient = vectorOf2 (s .gradient) }

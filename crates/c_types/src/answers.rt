@@ -1,13 +1,15 @@
 // The answers that are the same for two and three axes. Where a call is refused, what was asked for is 0.
 ghost use mathlib.Core.Path.{_≡_};
-ghost use Rattle.types.specs.Answers.{markAnswer, countAnswer, sweepAnswer, setAnswer, cellRead, oddsAnswer};
-ghost use Rattle.c_types.specs.Answers.{cMark, cCount, cSweep, cSet, cRead, cOdds};
+ghost use Rattle.types.specs.Answers.{markAnswer, countAnswer, sweepAnswer, moveAnswer, setAnswer, cellRead, oddsAnswer};
+ghost use Rattle.c_types.specs.Answers.{cMark, cCount, cSweep, cMove, cSet, cRead, cOdds};
 use crate::refusals::CRefusal;
 use crate::refusals::bare;
 use crate::refusals::refusal_to_c;
 use types::CellRead;
 use types::CountAnswer;
+use types::Cuts;
 use types::MarkAnswer;
+use types::MoveAnswer;
 use types::OddsAnswer;
 use types::SetAnswer;
 use types::SweepAnswer;
@@ -34,6 +36,14 @@ pub struct CSweepAnswer {
     pub count: u64,
 }
 
+// How many bytes a record moved back to edition 1 has, and the cuts, which it has not.
+#[repr(C)]
+pub struct CMoveAnswer {
+    pub refusal: CRefusal,
+    pub count: u64,
+    pub cuts: Cuts,
+}
+
 // A cell's odds; none were found off the grid.
 #[repr(C)]
 pub struct COddsAnswer {
@@ -41,6 +51,11 @@ pub struct COddsAnswer {
     pub found: bool,
     pub odds: f64,
 }
+
+const NO_CUTS: Cuts = Cuts {
+    first: 0,
+    second: 0,
+};
 
 pub fn mark_to_c(answer: MarkAnswer) -> CMarkAnswer
     ensures { λ r. ⌜ r ≡ cMark (markAnswer answer) ⌝ }
@@ -88,6 +103,23 @@ pub fn sweep_to_c(answer: SweepAnswer) -> CSweepAnswer
             refusal: refusal_to_c(r),
             station: 0,
             count: 0,
+        },
+    }
+}
+
+pub fn move_to_c(answer: MoveAnswer) -> CMoveAnswer
+    ensures { λ r. ⌜ r ≡ cMove (moveAnswer answer) ⌝ }
+{
+    match answer {
+        MoveAnswer::Moved { size, cuts } => CMoveAnswer {
+            refusal: bare(0),
+            count: size,
+            cuts,
+        },
+        MoveAnswer::Refused(r) => CMoveAnswer {
+            refusal: refusal_to_c(r),
+            count: 0,
+            cuts: NO_CUTS,
         },
     }
 }

@@ -2,12 +2,13 @@
 // map of zeros is one that every entry refuses with 1.
 ghost use mathlib.Core.Path.{_≡_};
 ghost use Rattle.types.specs.Answers.{cellAnswer2, sampleRead2, sampleAnswer2};
-ghost use Rattle.grid_map.specs.Heads.{mapAnswer2};
-ghost use Rattle.c_types.specs.Answers.{cMap2, cCell2, cSampleRead2, cSample2};
+ghost use Rattle.grid_map.specs.Heads.{mapAnswer2, loadAnswer2};
+ghost use Rattle.c_types.specs.Answers.{cMap2, cLoad2, cCell2, cSampleRead2, cSample2};
 use crate::refusals::CRefusal;
 use crate::refusals::bare;
 use crate::refusals::refusal_to_c;
 use grid_map::GridMap2;
+use grid_map::LoadAnswer2;
 use grid_map::MapAnswer2;
 use types::Cell2;
 use types::CellAnswer2;
@@ -24,6 +25,14 @@ use types::Vector2;
 pub struct CMapAnswer2 {
     pub refusal: CRefusal,
     pub map: GridMap2,
+}
+
+// A map's head, and whether its sweep is open.
+#[repr(C)]
+pub struct CLoadAnswer2 {
+    pub refusal: CRefusal,
+    pub map: GridMap2,
+    pub running: bool,
 }
 
 // The cell that contains a point.
@@ -67,6 +76,26 @@ pub fn map2_to_c(answer: MapAnswer2) -> CMapAnswer2
         MapAnswer2::Refused(r) => CMapAnswer2 {
             refusal: refusal_to_c(r),
             map: NO_MAP,
+        },
+    }
+}
+
+pub fn load2_to_c(answer: LoadAnswer2) -> CLoadAnswer2
+    ensures { λ r. ⌜ r ≡ cLoad2 (loadAnswer2 answer) ⌝ }
+{
+    match answer {
+        LoadAnswer2::Record {
+            map: loaded,
+            running,
+        } => CLoadAnswer2 {
+            refusal: bare(0),
+            map: loaded,
+            running,
+        },
+        LoadAnswer2::Refused(r) => CLoadAnswer2 {
+            refusal: refusal_to_c(r),
+            map: NO_MAP,
+            running: false,
         },
     }
 }

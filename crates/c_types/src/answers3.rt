@@ -2,12 +2,13 @@
 // map of zeros is one that every entry refuses with 1.
 ghost use mathlib.Core.Path.{_≡_};
 ghost use Rattle.types.specs.Answers.{cellAnswer3, sampleRead3, sampleAnswer3};
-ghost use Rattle.grid_map.specs.Heads.{mapAnswer3};
-ghost use Rattle.c_types.specs.Answers.{cMap3, cCell3, cSampleRead3, cSample3};
+ghost use Rattle.grid_map.specs.Heads.{mapAnswer3, loadAnswer3};
+ghost use Rattle.c_types.specs.Answers.{cMap3, cLoad3, cCell3, cSampleRead3, cSample3};
 use crate::refusals::CRefusal;
 use crate::refusals::bare;
 use crate::refusals::refusal_to_c;
 use grid_map::GridMap3;
+use grid_map::LoadAnswer3;
 use grid_map::MapAnswer3;
 use types::Bands;
 use types::Cell3;
@@ -26,6 +27,14 @@ use types::Vector3;
 pub struct CMapAnswer3 {
     pub refusal: CRefusal,
     pub map: GridMap3,
+}
+
+// A map's head, and whether its sweep is open.
+#[repr(C)]
+pub struct CLoadAnswer3 {
+    pub refusal: CRefusal,
+    pub map: GridMap3,
+    pub running: bool,
 }
 
 // The cell that contains a point.
@@ -83,6 +92,26 @@ pub fn map3_to_c(answer: MapAnswer3) -> CMapAnswer3
         MapAnswer3::Refused(r) => CMapAnswer3 {
             refusal: refusal_to_c(r),
             map: NO_MAP,
+        },
+    }
+}
+
+pub fn load3_to_c(answer: LoadAnswer3) -> CLoadAnswer3
+    ensures { λ r. ⌜ r ≡ cLoad3 (loadAnswer3 answer) ⌝ }
+{
+    match answer {
+        LoadAnswer3::Record {
+            map: loaded,
+            running,
+        } => CLoadAnswer3 {
+            refusal: bare(0),
+            map: loaded,
+            running,
+        },
+        LoadAnswer3::Refused(r) => CLoadAnswer3 {
+            refusal: refusal_to_c(r),
+            map: NO_MAP,
+            running: false,
         },
     }
 }

@@ -137,6 +137,7 @@ pub fn refusal_to_c(refusal: Refusal) -> CRefusal
         Refusal::Odds => bare(13),
         Refusal::Lists => bare(14),
         Refusal::Cuts => bare(15),
+        Refusal::Edition => bare(16),
         Refusal::Profile => bare(18),
         Refusal::Column { column } => at_place(17, column),
         Refusal::Sizes => bare(19),

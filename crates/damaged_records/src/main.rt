@@ -1,9 +1,20 @@
 // Damaged records: the record of the requirements' map of 2 by 2, cut at every length, and with each of its bytes
 // changed in turn, read again. The page says what reading answers each time. Before each reading the lent lists hold 9
-// throughout, and where it is refused they still do. What it prints is held to the file `stdout`.
+// throughout, and where it is refused they still do. `edition_two` does the same with records of edition 2. What it
+// prints is held to the file `stdout`.
+mod answers;
+mod copies;
+mod damage;
+mod edition_two;
+mod page;
+
+use crate::edition_two::edition_two;
+use crate::page::all_odds_are_nine;
+use crate::page::all_stamps_are_nine;
+use crate::page::number;
+use crate::page::text;
 use grid_map::GridMap2;
 use grid_map::MapAnswer2;
-use libc::STDOUT_FILENO;
 use record_reader::read_record2;
 use record_writer::write_record2;
 use types::CountAnswer;
@@ -11,36 +22,6 @@ use types::Extents2;
 use types::Frame;
 use types::Model;
 use types::Refusal;
-
-fn text(bytes: &[u8]) {
-    io::write_all(STDOUT_FILENO, bytes);
-}
-
-fn number(n: u64) {
-    io::print_decimal(STDOUT_FILENO, n);
-}
-
-fn all_odds_are_nine(odds: &[f64]) -> bool {
-    let mut i = 0;
-    while i < odds.len() {
-        if odds[i] != 9.0 {
-            return false;
-        }
-        i += 1;
-    }
-    true
-}
-
-fn all_stamps_are_nine(stamps: &[u32]) -> bool {
-    let mut i = 0;
-    while i < stamps.len() {
-        if stamps[i] != 9 {
-            return false;
-        }
-        i += 1;
-    }
-    true
-}
 
 fn lists(odds: &[f64], stamps: &[u32]) {
     if all_odds_are_nine(odds) {
@@ -167,4 +148,5 @@ fn main() {
         }
         CountAnswer::Refused(r) => refusal(r),
     }
+    edition_two();
 }

@@ -18,6 +18,10 @@ module _ {A : Type 0} where
   run-on xs ys l l₁ i n size first =
       sets-append xs ys l i ∙ ap (λ (k : ℕ). sets (sets l i xs) (i + k) ys) size ∙ ap (λ (m : List A). sets m (i + n) ys) (sym first)
 
+  -- the same, up to a place known by another name
+  pub run-to : (xs ys l l₁ : List A) (i j : ℕ) → i + length xs ≡ j → l₁ ≡ sets l i xs → sets l i (xs ++ ys) ≡ sets l₁ j ys
+  run-to xs ys l l₁ i j e first = run-on xs ys l l₁ i (length xs) refl first ∙ ap (λ (k : ℕ). sets l₁ k ys) e
+
   -- a list after one run, and after a second that starts where the first ended
   pub two-runs : (xs ys l l₁ l₂ : List A) (i n : ℕ) → length xs ≡ n → l₁ ≡ sets l i xs → l₂ ≡ sets l₁ (i + n) ys → l₂ ≡ sets l i (xs ++ ys)
   two-runs xs ys l l₁ l₂ i n size first second = second ∙ sym (run-on xs ys l l₁ i n size first)

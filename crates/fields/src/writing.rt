@@ -6,9 +6,11 @@ ghost use Prim.Native.Nat.{_+_, _*_, _≤_, _<_};
 ghost use lib.Ieee.{binary64, toBits};
 ghost use lib.ListN.{length, take, drop};
 ghost use lib.Seq.{sets};
-ghost use Rattle.rules.specs.Fields.{littleEndian, shortSize, floatSize, floatBytes, headSize};
+ghost use Rattle.rules.specs.Fields.{littleEndian, shortSize, wordSize, floatSize, floatBytes, headSize};
+ghost use Rattle.rules.specs.EditionTwo.{stampBytes};
 use crate::layout::FLOAT_SIZE;
 use crate::layout::TAG_SIZE;
+use crate::layout::WORD_SIZE;
 use crate::patterns::bits_of;
 
 // There is room for the two bytes.
@@ -58,6 +60,23 @@ pub fn put_floats(out: &mut [u8], at: usize, numbers: &[f64], from: usize, width
     while left > 0 {
         put_f64(out, here, numbers[place]);
         here += FLOAT_SIZE;
+        place += 1;
+        left -= 1;
+    }
+}
+
+// Numbers of 32 bits of a list, from a place on. They are the list's, and there is room for them.
+pub fn put_words(out: &mut [u8], at: usize, numbers: &[u32], from: usize, width: usize)
+    requires { ⌜ at + wordSize * width ≤ length (now out) ⌝ ∗ ⌜ from + width ≤ length (now numbers) ⌝ }
+    ensures { λ _. ⌜ now (out .exit)
+        ≡ sets (now (out .entry)) at (stampBytes (take width (drop from (now (numbers .entry))))) ⌝ }
+{
+    let mut here = at;
+    let mut place = from;
+    let mut left = width;
+    while left > 0 {
+        put_u32(out, here, numbers[place]);
+        here += WORD_SIZE;
         place += 1;
         left -= 1;
     }

@@ -7,7 +7,9 @@ use Rattle.grid_map.specs.declared.map2.GridMap2.{GridMap2}
 use Rattle.grid_map.specs.declared.map3.GridMap3.{GridMap3}
 use Rattle.grid_map.specs.declared.map2.MapAnswer2 as MapAnswer2
 use Rattle.grid_map.specs.declared.map3.MapAnswer3 as MapAnswer3
-use Rattle.grid_map.specs.Heads.{head2, head3, mapAnswer2, mapAnswer3}
+use Rattle.grid_map.specs.declared.map2.LoadAnswer2 as LoadAnswer2
+use Rattle.grid_map.specs.declared.map3.LoadAnswer3 as LoadAnswer3
+use Rattle.grid_map.specs.Heads.{head2, head3, mapAnswer2, mapAnswer3, loadAnswer2, loadAnswer3}
 
 abbrev head2-back : Head → GridMap2
 head2-back h = record { extents = extents2-back (h .extents); model = model-back (h .model); frame = record { 0 = h .frame } }
@@ -34,3 +36,17 @@ mapAnswer3-there (MapAnswer3.the-variants.Refused r) = ap MapAnswer3.the-variant
 
 pub mapAnswer3-injective : Injective mapAnswer3
 mapAnswer3-injective = of-back mapAnswer3 (answer-back (λ h. MapAnswer3.the-variants.Map (head3-back h)) MapAnswer3.the-variants.Refused) mapAnswer3-there
+
+loadAnswer2-there : (a : LoadAnswer2.LoadAnswer2) → answer-back (λ l. LoadAnswer2.the-variants.Record (head2-back (l .head)) (l .running)) LoadAnswer2.the-variants.Refused (loadAnswer2 a) ≡ a
+loadAnswer2-there (LoadAnswer2.the-variants.Record m running) = refl
+loadAnswer2-there (LoadAnswer2.the-variants.Refused r) = ap LoadAnswer2.the-variants.Refused (refusal-there r)
+
+pub loadAnswer2-injective : Injective loadAnswer2
+loadAnswer2-injective = of-back loadAnswer2 (answer-back (λ l. LoadAnswer2.the-variants.Record (head2-back (l .head)) (l .running)) LoadAnswer2.the-variants.Refused) loadAnswer2-there
+
+loadAnswer3-there : (a : LoadAnswer3.LoadAnswer3) → answer-back (λ l. LoadAnswer3.the-variants.Record (head3-back (l .head)) (l .running)) LoadAnswer3.the-variants.Refused (loadAnswer3 a) ≡ a
+loadAnswer3-there (LoadAnswer3.the-variants.Record m running) = refl
+loadAnswer3-there (LoadAnswer3.the-variants.Refused r) = ap LoadAnswer3.the-variants.Refused (refusal-there r)
+
+pub loadAnswer3-injective : Injective loadAnswer3
+loadAnswer3-injective = of-back loadAnswer3 (answer-back (λ l. LoadAnswer3.the-variants.Record (head3-back (l .head)) (l .running)) LoadAnswer3.the-variants.Refused) loadAnswer3-there

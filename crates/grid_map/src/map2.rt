@@ -49,6 +49,12 @@ pub enum MapAnswer2 {
     Refused(Refusal),
 }
 
+// Reading a record of edition 2: the map's head, and whether its sweep is open.
+pub enum LoadAnswer2 {
+    Record { map: GridMap2, running: bool },
+    Refused(Refusal),
+}
+
 impl GridMap2 {
     // The checks of an entry that uses this much of the head and of the lists lent beside it.
     pub fn check(self, uses: Uses, odds: usize, stamps: usize) -> Check

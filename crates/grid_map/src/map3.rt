@@ -49,6 +49,12 @@ pub enum MapAnswer3 {
     Refused(Refusal),
 }
 
+// Reading a record of edition 2: the map's head, and whether its sweep is open.
+pub enum LoadAnswer3 {
+    Record { map: GridMap3, running: bool },
+    Refused(Refusal),
+}
+
 impl GridMap3 {
     // The checks of an entry that uses this much of the head and of the lists lent beside it.
     pub fn check(self, uses: Uses, odds: usize, stamps: usize) -> Check

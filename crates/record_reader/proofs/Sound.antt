@@ -36,13 +36,13 @@ alike : {B : Type 0} (b : B) (offset : ℕ) (x : Bool) → refusalIn (soundOr of
 alike b offset true = refl
 alike b offset false = refl
 
-end-refusal : {B : Type 0} (b : B) (offset : ℕ) (rest : List ℕ) → refusalIn (endThen b offset rest) ≡ endRefusal offset rest
+pub end-refusal : {B : Type 0} (b : B) (offset : ℕ) (rest : List ℕ) → refusalIn (endThen b offset rest) ≡ endRefusal offset rest
 end-refusal b offset rest =
     end-is b offset rest
     ∙ ap (unlessSound offset (soundHere endField rest)) (alike b (offset + fieldSize endLength) (eqb (length (drop (fieldSize endLength) rest)) 0))
     ∙ sym (end-is {B = Unit {0}} tt offset rest)
 
-end-on : {B : Type 0} (b : B) (offset : ℕ) (rest : List ℕ) → endRefusal offset rest ≡ none → endThen b offset rest ≡ given b
+pub end-on : {B : Type 0} (b : B) (offset : ℕ) (rest : List ℕ) → endRefusal offset rest ≡ none → endThen b offset rest ≡ given b
 unfolding nothingFollows
 end-on b offset rest e =
     let left = sym (end-is {B = Unit {0}} tt offset rest) ∙ e in
@@ -104,7 +104,7 @@ extents-sound es e = go (allAtLeast leastExtent es) (fitsCapacity es) refl refl
         let y : _≡_ {A = ℕ} 0 1 = cc in absurd (omega arith)
     go false b p q = absurd (refused-or 0 es _ p e)
 
-extents-in-bounds : (es : List ℕ) → extentsInBounds es ≡ true → InBounds es
+pub extents-in-bounds : (es : List ℕ) → extentsInBounds es ≡ true → InBounds es
 unfolding extentsRefusal extentsInBounds
 extents-in-bounds es e =
     let least = both-l (allAtLeast leastExtent es) (fitsCapacity es) e in

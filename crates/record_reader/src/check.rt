@@ -29,7 +29,7 @@ use rows::rows_check;
 use types::Model;
 
 // So many rows, then the end. The extents have passed, so a row is short.
-fn rows_and_end(bytes: &[u8], at: usize, width: usize, count: usize, model: Model) -> Check
+pub fn rows_and_end(bytes: &[u8], at: usize, width: usize, count: usize, model: Model) -> Check
     requires { ⌜ width ≤ mostExtent ⌝ }
     ensures { λ r. ⌜ checkOf r ≡ rowsAndEnd (modelOf model) width count at (drop at (now (bytes .entry))) ⌝ }
 {

@@ -72,7 +72,7 @@ pub fn read_record2(bytes: &[u8], odds: &mut [f64], stamps: &mut [u32]) -> MapAn
 }
 
 // Bands that all have this model's pair.
-fn alike(model: Model, cuts: Cuts) -> Bands
+pub fn alike(model: Model, cuts: Cuts) -> Bands
     ensures { λ r. ⌜ ((e : Extents3) → bandsOf e r ≡ modelWithCuts (extents3 e) (cutsOf cuts) (modelOf model)) ⌝ }
 {
     let pair = Pair {

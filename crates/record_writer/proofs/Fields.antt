@@ -16,7 +16,7 @@ use Rattle.rules.specs.TheGridAndItsBounds.{Pair, Model, Head, plainModel, cell
 use Rattle.rules.specs.Fields.{littleEndian, shortSize, wordSize, floatSize, floatBytes, headSize, fieldSize, field}
 use Rattle.rules.specs.MapRecord.{extentsTag, extentsLength, extentBytes, modelTag, modelLength, frameTag, frameLength, rowLength, endTag, endLength}
 use Rattle.rules.specs.MapRecord.{rowWidth, rowCount, rowsBytes, rowsChecked, rowsOffset, recordBytes, recordSize, roomFor, writable, equalPairs, pairsChecked}
-use Rattle.record_writer.proofs.Ceilings.{rows-by-ceiling}
+use Rattle.rows.proofs.Ceilings.{rows-by-ceiling}
 use Rattle.laws.specs.Checks.{InBounds}
 use Rattle.fields.proofs.Bytes.{length-little}
 use Rattle.fields.proofs.Stores.{then-run}

@@ -5,5 +5,11 @@ mod parts;
 mod record2;
 mod record3;
 
+pub use parts::put_end;
+pub use parts::put_extents2;
+pub use parts::put_extents3;
+pub use parts::put_frame;
+pub use parts::put_model;
 pub use record2::write_record2;
+pub use record3::equal_pairs;
 pub use record3::write_record3;

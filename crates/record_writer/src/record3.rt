@@ -34,7 +34,7 @@ fn same_pair(a: Pair, b: Pair) -> bool
 }
 
 // The record of this edition has room for one pair.
-fn equal_pairs(bands: Bands) -> bool
+pub fn equal_pairs(bands: Bands) -> bool
     ensures { λ r. ⌜ r ≡ (samePair (pairOf (bands .low)) (pairOf (bands .middle)) && samePair (pairOf (bands .low)) (pairOf (bands .high))) ⌝ }
 {
     let low = bands.low;

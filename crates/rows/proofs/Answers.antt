@@ -16,6 +16,11 @@ pub sound-then : {A B : Type 0} (offset : ℕ) (sound : Bool) (a : A) (go : A �
 sound-then offset true a go = refl
 sound-then offset false a go = refl
 
+-- what is given at the end was given at each step
+pub then-given : {A B : Type 0} (x : Answer A) (go : A → Answer B) (b : B) → andThen x go ≡ given b → (a : A) × (x ≡ given a) × (go a ≡ given b)
+then-given (given a) go b e = (a, refl, e)
+then-given (refused r) go b e = let z : _≡_ {A = ℕ} 0 1 = cc in absurd (omega arith)
+
 pub refused-as : {A : Type 0} (x : Answer A) (r : Refusal) → refusalIn x ≡ some r → x ≡ refused r
 refused-as (given a) r e = let z : _≡_ {A = ℕ} 0 1 = cc in absurd (omega arith)
 refused-as (refused q) r e = cc

@@ -1,14 +1,14 @@
 -- The odds of a row and of all rows, one step at a time: what a loop over them has left. Assumes nothing.
 use Prim.Native.Nat.{ℕ, zero, suc, _+_, _-_, _*_, _<_}
-use mathlib.Core.Bool.{true, false}
+use mathlib.Core.Bool.{true, false, _&&_}
 use mathlib.Core.List.{List, [], _∷_, _++_, append-nil}
-use mathlib.Core.Path.{_≡_, refl, ap, _∙_}
+use mathlib.Core.Path.{_≡_, refl, ap, ap₂, _∙_}
 use native.Mathlib.Nat.{suc-mul}
 use native.Mathlib.Omega.{arith}
-use lib.Ieee.{Float, binary64, ofBits}
+use lib.Ieee.{Float, neg, le, binary64, ofBits}
 use lib.ListN.{length, length-append, drop}
 use lib.Seq.{sets, sets-eq, drop-drop, drop-length}
-use Rattle.rules.specs.TheGridAndItsBounds.{Model}
+use Rattle.rules.specs.TheGridAndItsBounds.{Model, floor}
 use Rattle.rules.specs.Fields.{fromLittleEndian, floatsIn, headSize, fieldSize}
 use Rattle.rules.specs.MapRecord.{rowLength, fromFloorToCeiling, oddsInBounds}
 use Rattle.rows.specs.Rows.{oddsAt}
@@ -21,6 +21,12 @@ bounds-broken m x xs h = rw h refl
 pub bounds-kept : (m : Model) (x : Float) (xs : List Float) → fromFloorToCeiling m x ≡ true → oddsInBounds m (x ∷ xs) ≡ oddsInBounds m xs
 unfolding oddsInBounds
 bounds-kept m x xs h = rw h refl
+
+-- two models of one ceiling, whatever their pairs and cuts
+pub odds-by-ceiling : (m k : Model) → m .ceiling ≡ k .ceiling → (xs : List Float) → oddsInBounds m xs ≡ oddsInBounds k xs
+unfolding oddsInBounds floor
+odds-by-ceiling m k e [] = refl
+odds-by-ceiling m k e (x ∷ xs) = ap₂ _&&_ (ap (λ (c : Float). le (neg c) x && le x c) e) (odds-by-ceiling m k e xs)
 
 -- ---- a row's floats
 pub floats-step : (n at : ℕ) (bs : List ℕ) → 0 < n
@@ -53,8 +59,8 @@ length-rows w (suc n) bs =
     ∙ (let a = length-floats w (drop headSize bs) in let b = length-rows w n (drop (fieldSize (rowLength w)) bs) in let c = suc-mul n w in omega arith)
 
 -- a run of stores over the whole list leaves the run
-pub sets-whole : (xs l : List Float) → length xs ≡ length l → sets l 0 xs ≡ xs
-sets-whole xs l e =
+pub sets-whole : {A : Type 0} (xs l : List A) → length xs ≡ length l → sets l 0 xs ≡ xs
+sets-whole {A} xs l e =
     sets-eq xs l 0 (omega arith)
     ∙ ap (λ (k : ℕ). [] ++ xs ++ drop k l) (let z : 0 + length xs ≡ length l = omega arith in z)
-    ∙ ap (λ (d : List Float). xs ++ d) (drop-length l) ∙ append-nil xs
+    ∙ ap (λ (d : List A). xs ++ d) (drop-length l) ∙ append-nil xs

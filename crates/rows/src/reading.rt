@@ -49,7 +49,7 @@ fn row_in_bounds(bytes: &[u8], at: usize, width: usize, model: Model) -> bool
 
 // Whether a row's field stands whole at a place, with its odds within the bounds. The extents have passed, so a row is
 // short.
-fn row_sound(bytes: &[u8], at: usize, width: usize, model: Model) -> bool
+pub fn row_sound(bytes: &[u8], at: usize, width: usize, model: Model) -> bool
     requires { ⌜ width ≤ mostExtent ⌝ }
     ensures { λ r. ⌜ r ≡ soundHere (rowField (modelOf model) width) (drop at (now (bytes .entry))) ⌝ }
 {
@@ -78,7 +78,7 @@ pub fn rows_check(bytes: &[u8], at: usize, width: usize, count: usize, model: Mo
 }
 
 // The floats of a row into the lent odds, from a place on. The row's field stands whole, and the odds have the room.
-fn read_row(bytes: &[u8], at: usize, width: usize, odds: &mut [f64], from: usize)
+pub fn read_row(bytes: &[u8], at: usize, width: usize, odds: &mut [f64], from: usize)
     requires { ⌜ at + rowLength width ≤ length (now bytes) ⌝ ∗ ⌜ from + width ≤ length (now odds) ⌝ }
     ensures { λ _. ⌜ now (odds .exit) ≡ sets (now (odds .entry)) from (floatsIn width (drop at (now (bytes .entry)))) ⌝ }
 {

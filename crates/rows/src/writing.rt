@@ -21,7 +21,7 @@ use fields::put_floats;
 use types::Model;
 
 // The odds of one row, each within the bounds. The row is one of the list's.
-fn odds_in_bounds(odds: &[f64], from: usize, width: usize, model: Model) -> bool
+pub fn odds_in_bounds(odds: &[f64], from: usize, width: usize, model: Model) -> bool
     requires { ⌜ from + width ≤ length (now odds) ⌝ }
     ensures { λ r. ⌜ r ≡ oddsInBounds (modelOf model) (take width (drop from (now (odds .entry)))) ⌝ }
 {
@@ -60,7 +60,7 @@ pub fn rows_writable(odds: &[f64], width: usize, count: usize, model: Model, at:
 }
 
 // A row's field. The row is one of the list's and short, and there is room for it.
-fn write_row(out: &mut [u8], at: usize, odds: &[f64], from: usize, width: usize)
+pub fn write_row(out: &mut [u8], at: usize, odds: &[f64], from: usize, width: usize)
     requires { ⌜ at + fieldSize (rowLength width) ≤ length (now out) ⌝ ∗ ⌜ from + width ≤ length (now odds) ⌝
         ∗ ⌜ width ≤ mostExtent ⌝ }
     ensures { λ _. ⌜ now (out .exit)

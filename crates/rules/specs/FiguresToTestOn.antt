@@ -2,8 +2,9 @@
 -- definitions by computation. Short tables stand below it. `Original` has answers of the original that a careless
 -- change of a definition alters where no figure marked * notices; `Added` has some of what the requirements add to the
 -- original: refusals, and the map record; `Sweeps` has change request 2's sweep file, `Bands` change request 6's bands,
--- `ManyPoints`, `Charts`, `Upright` and `Seasons` those of requests 4, 8, 11 and 12; `Bounds` has a figure for each
--- bound and each number of a rule that no other figure names.
+-- `ManyPoints`, `Charts`, `Upright` and `Seasons` those of requests 4, 8, 11 and 12, `Editions`, `EditionsRead` and
+-- `EditionMoves` request 7's edition 2 of the record; `Bounds` has a figure for each bound and each number of a rule
+-- that no other figure names.
 pub mod Original
 pub mod Added
 pub mod Sweeps
@@ -12,6 +13,9 @@ pub mod ManyPoints
 pub mod Charts
 pub mod Upright
 pub mod Seasons
+pub mod Editions
+pub mod EditionsRead
+pub mod EditionMoves
 pub mod Bounds
 use Prim.Native.Nat.{ℕ, _-_}
 use mathlib.Core.Bool.{Bool, true, false}

@@ -13,6 +13,7 @@ pub mod MapRecord
 pub mod SweepFile
 pub mod FiguresToTestOn
 -- Change requests: a file for each request that adds an entry.
+pub mod EditionTwo
 pub mod ManySamples
 pub mod VerticalBeam
 pub mod LayerChart

@@ -1,7 +1,8 @@
 -- Requirements, "Refusal numbers": the table, a line for each number, and what an answer is. Which refusal an entry
--- gives first is in `RefusalNumbers.Entries`. A refusal is its number in the table and the values that the table's last
--- column gives. Definitions only.
+-- gives first is in `RefusalNumbers.Entries`, of edition 2 of the record in `RefusalNumbers.Editions`. A refusal is its
+-- number in the table and the values that the table's last column gives. Definitions only.
 pub mod Entries
+pub mod Editions
 use Prim.Native.Nat.{ℕ}
 use mathlib.Core.List.{List, [], _∷_}
 use lib.IntN.{ℤ, pos}
@@ -74,6 +75,10 @@ unequalLists = record { number = 14; values = [] }
 -- request 6: "15, bad cuts"
 abbrev pub badCuts : Refusal
 badCuts = record { number = 15; values = [] }
+
+-- request 7: "16 for the refused move back"
+abbrev pub notEditionOne : Refusal
+notEditionOne = record { number = 16; values = [] }
 
 -- request 11: "18, outside the profile"
 abbrev pub outsideProfile : Refusal

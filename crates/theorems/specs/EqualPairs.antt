@@ -22,7 +22,7 @@ use Rattle.rules.specs.OneBeam.{Beam}
 use Rattle.rules.specs.SweepFile.{updateSweepEntry}
 use Rattle.rules.specs.VerticalBeam.{Vertical, updateVerticalEntry}
 use Rattle.rules.specs.ManySamples.{Slots, sampleAllLogOddsEntry}
-use Rattle.theorems.specs.MapRecord.Words.{plainHead}
+use Rattle.record_laws.specs.Words.{plainHead}
 
 -- ---- the requirements' model: `plainHead` is a head that has it
 abbrev pub plain : Model → Model

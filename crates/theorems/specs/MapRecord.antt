@@ -1,16 +1,8 @@
 -- Requirements, "Map record (added)": a map that is written and read is the same map, a record that is read and written
 -- has the same bytes, two readings of the same bytes agree, and bytes are a record or broken at one offset. Of any
--- number of axes. `MapRecord.Words` has the words used here beside the rules'; the files beside it have the steps of
--- the proofs. Assumes nothing.
+-- number of axes. `MapRecord.Words` has the words used here beside the rules' and those of the laws that proofs of code
+-- cite too, which are in `record_laws` with their proofs; the files beside it have the other steps. Assumes nothing.
 pub mod Words
-pub mod Each
-pub mod Bytes
-pub mod Numbers
-pub mod Fields
-pub mod Rows
-pub mod Heads
-pub mod Back
-pub mod Read
 pub mod Entries
 pub mod Cuts
 pub mod Needs
@@ -32,12 +24,13 @@ use Rattle.rules.specs.RefusalNumbers.Entries.{headRefusal, usesOf, writing, Ou
 use Rattle.rules.specs.TheGridAndItsBounds.{Head, Grid, cells, cutsInBounds}
 use Rattle.rules.specs.Fields.{fromLittleEndian}
 use Rattle.rules.specs.MapRecord.{Stored, recordBytes, recordOf, anyRecordOf, writable}
-use Rattle.theorems.specs.MapRecord.Words.{AreBytes, Held, IsRecord, IsBroken, mapRead, SameReading, AnyAxes, cutsOf, plainHead}
+use Rattle.record_laws.specs.Words.{AreBytes, Held, cutsOf, plainHead}
+use Rattle.theorems.specs.MapRecord.Words.{IsRecord, IsBroken, mapRead, SameReading, AnyAxes}
 use Rattle.theorems.specs.MapRecord.Cuts.{cuts-back, with-cuts-writes}
-use Rattle.theorems.specs.MapRecord.Fields.{begins-within}
-use Rattle.theorems.specs.MapRecord.Heads.{rows-are-cells, tests-of-writing}
-use Rattle.theorems.specs.MapRecord.Back.{record-bytes-length, writable-is, record-back}
-use Rattle.theorems.specs.MapRecord.Read.{read-again, read-sound, read-axes, record-broken}
+use Rattle.record_laws.specs.Fields.{begins-within}
+use Rattle.record_laws.specs.Heads.{rows-are-cells, tests-of-writing}
+use Rattle.record_laws.specs.Back.{record-bytes-length, writable-is, record-back}
+use Rattle.record_laws.specs.Read.{read-again, read-sound, read-axes, record-broken}
 use Rattle.theorems.specs.MapRecord.Entries.{cutsFit, reads, read-from, same-reading, wrote-into, writes}
 
 -- ---- written, then read
@@ -105,7 +98,7 @@ pub two-readings : (axes : ℕ) (cuts bytes : List ℕ) (g k : Grid) → SameRea
 two-readings = same-reading
 
 -- ---- all bytes
-one-offset : (o p : ℕ) → brokenRecord o ≡ brokenRecord p → o ≡ p
+pub one-offset : (o p : ℕ) → brokenRecord o ≡ brokenRecord p → o ≡ p
 one-offset o p e = let v : pos o ∷ [] ≡ pos p ∷ [] = ap (λ (r : Refusal). r .values) e in cc
 
 -- Every list of numbers is a record, as long as its extents say and with a map that may be written again; or it is

@@ -19,6 +19,7 @@ use Rattle.rules.specs.ManySamples.{Slots}
 use Rattle.types.specs.declared.answers.MarkAnswer.{MarkAnswer}
 use Rattle.types.specs.declared.answers.CountAnswer.{CountAnswer}
 use Rattle.types.specs.declared.answers.SweepAnswer.{SweepAnswer}
+use Rattle.types.specs.declared.answers.MoveAnswer.{MoveAnswer}
 use Rattle.types.specs.declared.answers.SetAnswer.{SetAnswer}
 use Rattle.types.specs.Answers.{setAnswer, oddsAnswer, sampleAnswer2, sampleAnswer3, cellAnswer2, cellAnswer3}
 use Rattle.bresenham.specs.Lines.{plotted2, plotted3, step2, step3}
@@ -27,10 +28,13 @@ use Rattle.grid_map.specs.declared.map2.GridMap2.{GridMap2}
 use Rattle.grid_map.specs.declared.map3.GridMap3.{GridMap3}
 use Rattle.grid_map.specs.declared.map2.MapAnswer2.{MapAnswer2}
 use Rattle.grid_map.specs.declared.map3.MapAnswer3.{MapAnswer3}
-use Rattle.grid_map.specs.Heads.{head2, head3, mapOutcome2, mapOutcome3, openOutcome2, openOutcome3, setOutcome}
+use Rattle.grid_map.specs.declared.map2.LoadAnswer2.{LoadAnswer2}
+use Rattle.grid_map.specs.declared.map3.LoadAnswer3.{LoadAnswer3}
+use Rattle.grid_map.specs.Heads.{head2, head3, mapOutcome2, mapOutcome3, loadOutcome2, loadOutcome3, openOutcome2, openOutcome3, setOutcome}
 use Rattle.beam.specs.Applying.{markOutcome, countOutcome}
 use Rattle.lent.specs.LentHead.{Opened, opened2, opened3}
 use Rattle.record_writer.specs.Writing.{writeOutcome}
+use Rattle.editions.specs.Moves.{moveOutcome}
 use Rattle.sweep_reader.specs.Reading.{sweepOutcome}
 use Rattle.chart.specs.Charts.{chartOutcome}
 use Rattle.season.specs.Reports.{reportOutcome}
@@ -38,10 +42,10 @@ use Rattle.sample_list.specs.Slots.{slotsOf, slotsOutcome}
 use Rattle.c_types.specs.Answers.{Told}
 use Rattle.types.proofs.Injective.{Injective}
 use Rattle.theorems.specs.OneAnswer.Law.{OneAnswer, Fixed, one-answer, pair, plain, beside, both}
-use Rattle.types.proofs.InjectiveAnswers.{markAnswer-injective, countAnswer-injective, sweepAnswer-injective, setAnswer-injective, cellAnswer2-injective, cellAnswer3-injective}
+use Rattle.types.proofs.InjectiveAnswers.{markAnswer-injective, countAnswer-injective, sweepAnswer-injective, moveAnswer-injective, setAnswer-injective, cellAnswer2-injective, cellAnswer3-injective}
 use Rattle.types.proofs.InjectiveAnswers.{oddsAnswer-injective, sampleAnswer2-injective, sampleAnswer3-injective}
 use Rattle.bresenham.proofs.Injective.{step2-injective, step3-injective, plotted2-injective, plotted3-injective}
-use Rattle.grid_map.proofs.Injective.{head2-injective, head3-injective, mapAnswer2-injective, mapAnswer3-injective}
+use Rattle.grid_map.proofs.Injective.{head2-injective, head3-injective, mapAnswer2-injective, mapAnswer3-injective, loadAnswer2-injective, loadAnswer3-injective}
 use Rattle.theorems.specs.OneAnswer.Grids.{grid, slots}
 
 -- ---- one value, `r ≡ v`, as in C, or one list that is left, `now (xs .exit) ≡ v`
@@ -83,6 +87,12 @@ mapOutcome2-one = one-answer (beside mapAnswer2-injective grid)
 pub mapOutcome3-one : Fixed {A = MapAnswer3 × (List Float × List ℕ)} (λ a. mapOutcome3 (a .0) (a .1 .0) (a .1 .1))
 mapOutcome3-one = one-answer (beside mapAnswer3-injective grid)
 
+pub loadOutcome2-one : Fixed {A = LoadAnswer2 × (List Float × List ℕ)} (λ a. loadOutcome2 (a .0) (a .1 .0) (a .1 .1))
+loadOutcome2-one = one-answer (beside loadAnswer2-injective grid)
+
+pub loadOutcome3-one : Fixed {A = LoadAnswer3 × (List Float × List ℕ)} (λ a. loadOutcome3 (a .0) (a .1 .0) (a .1 .1))
+loadOutcome3-one = one-answer (beside loadAnswer3-injective grid)
+
 pub openOutcome2-one : Fixed {A = MapAnswer2 × List ℕ} (λ a. openOutcome2 (a .0) (a .1))
 openOutcome2-one = one-answer (beside mapAnswer2-injective plain)
 
@@ -103,6 +113,9 @@ sweepOutcome-one = one-answer (beside sweepAnswer-injective grid)
 
 pub writeOutcome-one : Fixed {A = CountAnswer × List ℕ} (λ a. writeOutcome (a .0) (a .1))
 writeOutcome-one = one-answer (beside countAnswer-injective plain)
+
+pub moveOutcome-one : Fixed {A = MoveAnswer × List ℕ} (λ a. moveOutcome (a .0) (a .1))
+moveOutcome-one = one-answer (beside moveAnswer-injective plain)
 
 pub chartOutcome-one : Fixed {A = SetAnswer × List ℕ} (λ a. chartOutcome (a .0) (a .1))
 chartOutcome-one = one-answer (beside setAnswer-injective plain)

@@ -23,8 +23,8 @@ use Rattle.rules.specs.RefusalNumbers.Entries.{Outcome, updateScanEntry}
 use Rattle.rules.specs.TheGridAndItsBounds.{Head, Grid}
 use Rattle.rules.specs.OneBeam.{Beam, beamsOf}
 use Rattle.rules.specs.SweepFile.{Sweep, Swept, sweepBytes, sweepSize, sweepOf, updateSweepEntry, writeSweepEntry}
-use Rattle.theorems.specs.MapRecord.Words.{AreBytes, Are64}
-use Rattle.theorems.specs.MapRecord.Fields.{begins-within}
+use Rattle.record_laws.specs.Words.{AreBytes, Are64}
+use Rattle.record_laws.specs.Fields.{begins-within}
 use Rattle.theorems.specs.SweepFile.Words.{Every, NoNanIn, Writable, IsSweep, IsBroken, mailedBy}
 use Rattle.theorems.specs.SweepFile.Written.{sweep-back}
 use Rattle.theorems.specs.SweepFile.Again.{sweep-again}

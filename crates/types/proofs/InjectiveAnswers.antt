@@ -8,12 +8,14 @@ use lib.Dec.{eqb}
 use lib.ListN.{getD, length}
 use Rattle.rules.specs.RefusalNumbers as Paper
 use Rattle.rules.specs.RefusalNumbers.{Answer, given, refused}
+use Rattle.rules.specs.RefusalNumbers.Editions.{Moved}
 use Rattle.rules.specs.SweepFile.{Swept}
 use Rattle.types.specs.declared.refusal.Refusal as Refusal
 use Rattle.types.specs.declared.refusal.Refusal.the-variants as R
 use Rattle.types.specs.declared.answers.MarkAnswer as MarkAnswer
 use Rattle.types.specs.declared.answers.CountAnswer as CountAnswer
 use Rattle.types.specs.declared.answers.SweepAnswer as SweepAnswer
+use Rattle.types.specs.declared.answers.MoveAnswer as MoveAnswer
 use Rattle.types.specs.declared.answers.SetAnswer as SetAnswer
 use Rattle.types.specs.declared.answers.CellRead as CellRead
 use Rattle.types.specs.declared.answers.OddsAnswer as OddsAnswer
@@ -24,7 +26,7 @@ use Rattle.types.specs.declared.answers.SampleAnswer3 as SampleAnswer3
 use Rattle.types.specs.declared.answers.CellAnswer2 as CellAnswer2
 use Rattle.types.specs.declared.answers.CellAnswer3 as CellAnswer3
 use Rattle.types.specs.Refusals.{refusalOf}
-use Rattle.types.specs.Answers.{markAnswer, countAnswer, sweepAnswer, setAnswer, cellRead, oddsAnswer}
+use Rattle.types.specs.Answers.{markAnswer, countAnswer, sweepAnswer, moveAnswer, setAnswer, cellRead, oddsAnswer}
 use Rattle.types.specs.Answers.{sampleRead2, sampleRead3, sampleAnswer2, sampleAnswer3, cellAnswer2, cellAnswer3}
 use Rattle.types.proofs.Injective.{Injective, of-back, cell2-back, cell3-back, sample2-back, sample3-back}
 
@@ -51,10 +53,11 @@ refusal-back r =
     (cond (eqb n 13) R.Odds
     (cond (eqb n 14) R.Lists
     (cond (eqb n 15) R.Cuts
+    (cond (eqb n 16) R.Edition
     (cond (eqb n 18) R.Profile
     (cond (eqb n 17) (R.Column (value r 0))
     (cond (eqb n 19) R.Sizes
-    (cond (eqb n 20) R.Charts R.Chart))))))))))))))))))
+    (cond (eqb n 20) R.Charts R.Chart)))))))))))))))))))
 
 pub refusal-there : (r : Refusal.Refusal) → refusal-back (refusalOf r) ≡ r
 unfolding refusal-back value
@@ -74,6 +77,7 @@ refusal-there (R.Sweep offset) = refl
 refusal-there R.Odds = refl
 refusal-there R.Lists = refl
 refusal-there R.Cuts = refl
+refusal-there R.Edition = refl
 refusal-there R.Profile = refl
 refusal-there (R.Column column) = refl
 refusal-there R.Sizes = refl
@@ -115,6 +119,16 @@ sweepAnswer-there (SweepAnswer.the-variants.Refused r) = ap SweepAnswer.the-vari
 
 pub sweepAnswer-injective : Injective sweepAnswer
 sweepAnswer-injective = of-back sweepAnswer (answer-back swept-back SweepAnswer.the-variants.Refused) sweepAnswer-there
+
+abbrev moved-back : Moved → MoveAnswer.MoveAnswer
+moved-back m = MoveAnswer.the-variants.Moved (m .size) (record { first = getD (m .cuts) 0 0; second = getD (m .cuts) 1 0 })
+
+moveAnswer-there : (a : MoveAnswer.MoveAnswer) → answer-back moved-back MoveAnswer.the-variants.Refused (moveAnswer a) ≡ a
+moveAnswer-there (MoveAnswer.the-variants.Moved size cuts) = refl
+moveAnswer-there (MoveAnswer.the-variants.Refused r) = ap MoveAnswer.the-variants.Refused (refusal-there r)
+
+pub moveAnswer-injective : Injective moveAnswer
+moveAnswer-injective = of-back moveAnswer (answer-back moved-back MoveAnswer.the-variants.Refused) moveAnswer-there
 
 setAnswer-there : (a : SetAnswer.SetAnswer) → answer-back (λ (t : Unit {0}). SetAnswer.the-variants.Done) SetAnswer.the-variants.Refused (setAnswer a) ≡ a
 setAnswer-there SetAnswer.the-variants.Done = refl

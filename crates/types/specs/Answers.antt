@@ -8,10 +8,12 @@ use lib.IntN.{ℤ}
 use lib.Ieee.{Float}
 use Rattle.rules.specs.RefusalNumbers.{Answer, given, refused}
 use Rattle.rules.specs.Coordinates.{Sample}
+use Rattle.rules.specs.RefusalNumbers.Editions.{Moved}
 use Rattle.rules.specs.SweepFile.{Swept}
 use Rattle.types.specs.declared.answers.MarkAnswer as MarkAnswer
 use Rattle.types.specs.declared.answers.CountAnswer as CountAnswer
 use Rattle.types.specs.declared.answers.SweepAnswer as SweepAnswer
+use Rattle.types.specs.declared.answers.MoveAnswer as MoveAnswer
 use Rattle.types.specs.declared.answers.SetAnswer as SetAnswer
 use Rattle.types.specs.declared.answers.CellRead as CellRead
 use Rattle.types.specs.declared.answers.OddsAnswer as OddsAnswer
@@ -21,6 +23,7 @@ use Rattle.types.specs.declared.answers.SampleAnswer2 as SampleAnswer2
 use Rattle.types.specs.declared.answers.SampleAnswer3 as SampleAnswer3
 use Rattle.types.specs.declared.answers.CellAnswer2 as CellAnswer2
 use Rattle.types.specs.declared.answers.CellAnswer3 as CellAnswer3
+use Rattle.types.specs.Models.{cutsOf}
 use Rattle.types.specs.Points.{cell2, cell3}
 use Rattle.types.specs.Samples.{sample2, sample3}
 use Rattle.types.specs.Refusals.{refusalOf}
@@ -36,6 +39,10 @@ countAnswer (CountAnswer.the-variants.Refused r) = refused (refusalOf r)
 abbrev pub sweepAnswer : SweepAnswer.SweepAnswer → Answer Swept
 sweepAnswer (SweepAnswer.the-variants.Swept station count) = given (record { station = station; count = count })
 sweepAnswer (SweepAnswer.the-variants.Refused r) = refused (refusalOf r)
+
+abbrev pub moveAnswer : MoveAnswer.MoveAnswer → Answer Moved
+moveAnswer (MoveAnswer.the-variants.Moved size cuts) = given (record { size = size; cuts = cutsOf cuts })
+moveAnswer (MoveAnswer.the-variants.Refused r) = refused (refusalOf r)
 
 abbrev pub setAnswer : SetAnswer.SetAnswer → Answer (Unit {0})
 setAnswer SetAnswer.the-variants.Done = given tt

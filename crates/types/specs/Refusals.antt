@@ -2,7 +2,7 @@
 use Rattle.rules.specs.RefusalNumbers as Paper
 use Rattle.types.specs.declared.refusal.Refusal as Code
 use Rattle.types.specs.declared.refusal.Refusal.the-variants.{DimensionTooSmall, CapacityOverflow, Model, Buffer, OutOfBounds}
-use Rattle.types.specs.declared.refusal.Refusal.the-variants.{NonFiniteCoordinate, Ray, RayInList, Beams, Frame, Record, Room, Sweep, Odds, Lists, Cuts, Profile, Column}
+use Rattle.types.specs.declared.refusal.Refusal.the-variants.{NonFiniteCoordinate, Ray, RayInList, Beams, Frame, Record, Room, Sweep, Odds, Lists, Cuts, Edition, Profile, Column}
 use Rattle.types.specs.declared.refusal.Refusal.the-variants.{Sizes, Charts, Chart}
 
 abbrev pub refusalOf : Code.Refusal → Paper.Refusal
@@ -22,6 +22,7 @@ refusalOf (Sweep offset) = Paper.brokenSweep offset
 refusalOf Odds = Paper.oddsNotANumber
 refusalOf Lists = Paper.unequalLists
 refusalOf Cuts = Paper.badCuts
+refusalOf Edition = Paper.notEditionOne
 refusalOf Profile = Paper.outsideProfile
 refusalOf (Column column) = Paper.nanColumn column
 refusalOf Sizes = Paper.unequalSizes

@@ -1,5 +1,6 @@
 // What each entry answers; the answers that hold a map's head stand with it, in grid_map. None holds an array.
 // `specs/Answers.antt` gives each case's meaning by the requirements.
+use crate::model::Cuts;
 use crate::points::Cell2;
 use crate::points::Cell3;
 use crate::refusal::Refusal;
@@ -21,6 +22,12 @@ pub enum CountAnswer {
 // A sweep file: the station that mailed it, and how many marks changed a cell.
 pub enum SweepAnswer {
     Swept { station: u16, count: u64 },
+    Refused(Refusal),
+}
+
+// Moving a record back to edition 1: how many bytes it has there, and the cuts, which it has not.
+pub enum MoveAnswer {
+    Moved { size: u64, cuts: Cuts },
     Refused(Refusal),
 }
 

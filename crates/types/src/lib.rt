@@ -15,6 +15,7 @@ pub use answers::CellAnswer3;
 pub use answers::CellRead;
 pub use answers::CountAnswer;
 pub use answers::MarkAnswer;
+pub use answers::MoveAnswer;
 pub use answers::OddsAnswer;
 pub use answers::SampleAnswer2;
 pub use answers::SampleAnswer3;

@@ -53,6 +53,8 @@ pub enum Refusal {
     Lists,
     // The heights at which bands begin are not 0 < first < second < the last extent, or the map has none.
     Cuts,
+    // The record is one of edition 2 that edition 1 cannot hold: its sweep is open, or its pairs are unequal.
+    Edition,
     // The vertical beam is outside its profile.
     Profile,
     // This column of a chart, the first such, holds NaN.

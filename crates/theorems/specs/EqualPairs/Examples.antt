@@ -12,7 +12,7 @@ use Rattle.rules.specs.TheGridAndItsBounds.{Pair, Head, Grid, lastExtent, risin
 use Rattle.rules.specs.VerticalBeam.{inProfile, columnPlace, columnMarks, endsOccupied, cellsAbove, verticalMarks, updateVerticalEntry}
 use Rattle.theorems.specs.PromiseThree.Examples.{plus, minus, grid3, opened}
 use Rattle.theorems.specs.EqualPairs.{OnePair}
-use Rattle.theorems.specs.MapRecord.Words.{plainHead}
+use Rattle.record_laws.specs.Words.{plainHead}
 
 abbrev low : Pair
 low = record { occupied = plus 3 4; free = minus 1 2 }

@@ -27,8 +27,8 @@ use Rattle.rules.specs.SweepFile.{Sweep, sweepOf, sweepAnswer, sweptBy, updateS
 use Rattle.rules.specs.VerticalBeam.{verticalMarks, updateVerticalEntry}
 use Rattle.rules.specs.ManySamples.{sampleAllLogOddsEntry}
 use Rattle.theorems.specs.EqualPairs.{AllHave, OnePair, plain, plainly, Alike, ReadAlike, EqualPairsAreOne}
-use Rattle.theorems.specs.MapRecord.Words.{plainHead}
-use Rattle.theorems.specs.MapRecord.Read.{read-plain}
+use Rattle.record_laws.specs.Words.{plainHead}
+use Rattle.record_laws.specs.Read.{read-plain}
 
 -- ---- pairs
 either-same : {A : Type 0} (b : Bool) (x y : A) → x ≡ y → cond b x y ≡ y

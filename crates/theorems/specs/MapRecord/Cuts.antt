@@ -5,30 +5,23 @@ use mathlib.Core.Bool.{Bool, true, _&&_}
 use mathlib.Core.List.{List, [], _∷_, _++_}
 use mathlib.Core.Option.{none}
 use mathlib.Core.Path.{_≡_, refl, sym, ap, ap₂, _∙_}
-use lib.Dec.{T, eqb}
+use lib.Dec.{eqb}
 use lib.ListN.{length, drop}
-use lib.Ieee.{Float, binary64, fits, toBits, ofBits}
-use lib.Ieee.Bits.{ofBits-toBits}
-use borrow.Author.Tests.{eqb-true, eq-eqb}
+use lib.Ieee.{Float, binary64, toBits}
+use borrow.Author.Tests.{eq-eqb}
 use Rattle.rules.specs.RefusalNumbers.{given}
 use Rattle.rules.specs.RefusalNumbers.Entries.{headRefusal, usesOf, writing, writeRecordEntry}
 use Rattle.rules.specs.TheGridAndItsBounds.{Pair, Band, Model, Head, pairBounded, allPairs, bounded}
 use Rattle.rules.specs.MapRecord.{Stored, recordBytes, sameBits, samePair, equalPairs, pairsChecked, bandsFrom, modelWithCuts, withCuts, writable}
-use Rattle.theorems.specs.MapRecord.Words.{Is64, Held, HeldBands, LaidOn, cutsOf, plainHead}
-use Rattle.theorems.specs.MapRecord.Each.{both}
-use Rattle.theorems.specs.MapRecord.Heads.{tests-of-writing, writing-passes}
-use Rattle.record_writer.proofs.Ceilings.{rows-by-ceiling}
-use Rattle.theorems.specs.MapRecord.Back.{lowest-bounded, writable-is, is-writable}
+use Rattle.record_laws.specs.Words.{Is64, Held, HeldBands, LaidOn, cutsOf, plainHead}
+use Rattle.record_laws.specs.Each.{both}
+use Rattle.record_laws.specs.Numbers.{same-float}
+use Rattle.record_laws.specs.Heads.{tests-of-writing, writing-passes}
+use Rattle.rows.proofs.Ceilings.{rows-by-ceiling}
+use Rattle.record_laws.specs.Back.{lowest-bounded, writable-is, is-writable}
 use Rattle.theorems.specs.MapRecord.Entries.{cutsFit, writes}
 
 -- ---- equal pairs
-same-float : (x y : Float) → Is64 x → Is64 y → sameBits x y ≡ true → x ≡ y
-unfolding sameBits
-same-float x y p q e =
-    let s : T (fits binary64 x) = rw p tt in
-    let t : T (fits binary64 y) = rw q tt in
-    sym (ofBits-toBits binary64 x s) ∙ ap (ofBits binary64) (eqb-true (toBits binary64 x) (toBits binary64 y) e) ∙ ofBits-toBits binary64 y t
-
 same-pair : (p q : Pair) → Is64 (p .occupied) → Is64 (p .free) → Is64 (q .occupied) → Is64 (q .free) → samePair p q ≡ true → p ≡ q
 unfolding samePair
 same-pair p q a b c d e =
@@ -59,7 +52,7 @@ cuts-back h odds held e =
     (bands-back (h .model .lowest) (h .model .above) (held .occupied) (held .free) (held .above) e))
 
 -- ---- a plain head with cuts
-from-one-pair : (p : Pair) (cuts : List ℕ) → equalPairs p (bandsFrom p cuts) ≡ true
+pub from-one-pair : (p : Pair) (cuts : List ℕ) → equalPairs p (bandsFrom p cuts) ≡ true
 unfolding equalPairs bandsFrom samePair sameBits
 from-one-pair p [] = refl
 from-one-pair p (c ∷ cs) =
@@ -69,7 +62,7 @@ from-one-pair p (c ∷ cs) =
     )
     (from-one-pair p cs)
 
-all-alike : (test : Pair → Bool) (p : Pair) (cuts : List ℕ) → test p ≡ true → allPairs test p (bandsFrom p cuts) ≡ true
+pub all-alike : (test : Pair → Bool) (p : Pair) (cuts : List ℕ) → test p ≡ true → allPairs test p (bandsFrom p cuts) ≡ true
 unfolding allPairs bandsFrom
 all-alike test p [] t = t
 all-alike test p (c ∷ cs) t = rw t (all-alike test p cs t)

@@ -16,7 +16,7 @@ use Rattle.rules.specs.RefusalNumbers.Entries.{unlessRefused, readAnswer, readR
 use Rattle.rules.specs.TheGridAndItsBounds.{Head, Grid, cells, cutsInBounds, onePerCell}
 use Rattle.rules.specs.MapRecord.{Stored, recordBytes, recordOf, writable, withCuts}
 use Rattle.theorems.specs.MapRecord.Words.{mapRead, SameReading}
-use Rattle.theorems.specs.MapRecord.Each.{both}
+use Rattle.record_laws.specs.Each.{both}
 
 -- ---- reading
 -- one odds number and one stamp for each cell of the map that was read

@@ -20,22 +20,22 @@ use Rattle.rules.specs.MapRecord.{extentBytes, extentsIn, rowCount, rowsBytes}
 use Rattle.rules.specs.MapRecord.{recordBytes, rowsOffset, oddsInBounds, joined, oddsThen, recordOf}
 use Rattle.rules.specs.MapRecord.{sameBits, samePair, equalPairs, pairsChecked, rowsChecked, recordSize, roomFor, writable}
 use Rattle.theorems.specs.WholeSample.{allFit}
-use Rattle.theorems.specs.MapRecord.Words.{Held}
-use Rattle.theorems.specs.MapRecord.Numbers.{are-64}
+use Rattle.record_laws.specs.Words.{Is64, Are64, Held}
+use Rattle.record_laws.specs.Each.{each-nil, each-cons, both}
 
 -- the requirements' model, occupied 0.75, free -0.5, ceiling 4; in frame 1
-abbrev model : Model
+abbrev pub model : Model
 model = plainModel (record { occupied = fin false 3 (negsuc 1); free = fin true 1 (negsuc 0) }) (fin false 1 (pos 2))
 
-abbrev headOf : List ℕ → Head
+abbrev pub headOf : List ℕ → Head
 headOf es = record { extents = es; model = model; frame = 1 }
 
 -- the ceiling, -0.0, 0.5 and the floor
-abbrev four : List Float
+abbrev pub four : List Float
 four = fin false 1 (pos 2) ∷ fin true 0 (pos 0) ∷ halfF ∷ fin true 1 (pos 2) ∷ []
 
 -- a map of 2 by 2 by 3 with cuts 1 and 2, whose middle band has this pair
-abbrev banded : Pair → Head
+abbrev pub banded : Pair → Head
 banded p =
     record {
       extents = 2 ∷ 2 ∷ 3 ∷ [];
@@ -48,8 +48,14 @@ banded p =
       frame = 1;
     }
 
-abbrev otherPair : Pair
+abbrev pub otherPair : Pair
 otherPair = record { occupied = halfF; free = model .lowest .free }
+
+-- numbers that a test finds values of binary64 are such values
+are-64 : (xs : List Float) → allFit binary64 xs ≡ true → Are64 xs
+unfolding allFit
+are-64 [] t = each-nil Is64 nan
+are-64 (x ∷ xs) t = let b = both (fits binary64 x) (allFit binary64 xs) t in each-cons Is64 nan x xs (b .0) (are-64 xs (b .1))
 
 -- the record of a 2 by 2 map; its first odds number stands at bytes 44 to 51
 abbrev bytesOf : List Float → List ℕ

@@ -6,6 +6,7 @@ use mathlib.Core.Bool.{Bool}
 use mathlib.Core.List.{List}
 use lib.Ieee.{Float, Format}
 use Rattle.rules.specs.RefusalNumbers.{Answer, given}
+use Rattle.rules.specs.RefusalNumbers.Entries as Entries
 use Rattle.rules.specs.RefusalNumbers.Entries.{Outcome}
 use Rattle.rules.specs.TheGridAndItsBounds as Rules
 use Rattle.rules.specs.TheGridAndItsBounds.{pairAt}
@@ -15,13 +16,15 @@ use Rattle.rules.specs.OneBeam.{Integrated}
 use Rattle.types.specs.declared.frames.Frame.{Frame}
 use Rattle.types.specs.declared.frames.Stamp.{Stamp}
 use Rattle.types.specs.declared.model.Model.{Model}
+use Rattle.types.specs.declared.model.Bands.{Bands}
+use Rattle.types.specs.declared.points.Extents3.{Extents3}
 use Rattle.types.specs.declared.answers.CountAnswer.{CountAnswer}
 use Rattle.types.specs.declared.answers.SetAnswer.{SetAnswer}
 use Rattle.types.specs.Points.{point2, point3, vector2, vector3, cell2, cell3, extents2, extents3}
-use Rattle.types.specs.Models.{modelOf}
+use Rattle.types.specs.Models.{modelOf, bandsOf}
 use Rattle.types.specs.Beams.{isHit}
 use Rattle.types.specs.Answers.{countAnswer, cellRead, sampleRead2, sampleRead3}
-use Rattle.checks.specs.Checking.{checkOf}
+use Rattle.checks.specs.Checking.{checkOf, usesOf}
 use Rattle.places.specs.Places.{placeOf}
 use Rattle.sample.specs.Stencil.{onAxis, stencilled2, stencilled3}
 use Rattle.clip.specs.Spans.{passageOf}
@@ -34,7 +37,7 @@ use Rattle.grid_map.specs.Heads.{setOutcome}
 use Rattle.beam.specs.Applying.{Applied, Beamed, integratedOf}
 use Rattle.types.proofs.Injective.{Injective, of-back}
 use Rattle.theorems.specs.OneAnswer.Law.{OneAnswer, Fixed, one-answer, pair, plain, beside}
-use Rattle.types.proofs.Injective.{point2-injective, point3-injective, vector2-injective, vector3-injective, cell2-injective, cell3-injective, extents2-injective, extents3-injective, model-injective, hit-back}
+use Rattle.types.proofs.Injective.{point2-injective, point3-injective, vector2-injective, vector3-injective, cell2-injective, cell3-injective, extents2-injective, extents3-injective, model-injective, bands-injective, hit-back}
 use Rattle.types.proofs.InjectiveAnswers.{countAnswer-injective, setAnswer-injective}
 use Rattle.types.proofs.InjectiveAnswers.{cellRead-injective, sampleRead2-injective, sampleRead3-injective}
 use Rattle.bresenham.proofs.Injective.{axis-injective, primary-injective, line2-injective, line3-injective}
@@ -130,6 +133,17 @@ tried3-one = one-answer tried3-injective
 -- the steps of a model, the same at every place
 pub stepsOf-one : (v : ℕ → Marks.Steps) → OneAnswer (λ (s : Steps). (place : ℕ) → stepsOf s ≡ v place)
 stepsOf-one v a b p q = stepsOf-injective a b (p 0 ∙ sym (q 0))
+
+-- bands, laid on any extents; and bytes that are the same whatever the extents are
+pub bandsOf-one : (v : Extents3 → Rules.Model) → OneAnswer (λ (b : Bands). (e : Extents3) → bandsOf e b ≡ v e)
+bandsOf-one v a b p q = let e : Extents3 = record { x = 0; y = 0; z = 0 } in bands-injective e a b (p e ∙ sym (q e))
+
+pub list-for-extents-one : (v : Extents3 → List ℕ) → OneAnswer (λ (bytes : List ℕ). (e : Extents3) → bytes ≡ v e)
+list-for-extents-one v a b p q = let e : Extents3 = record { x = 0; y = 0; z = 0 } in p e ∙ sym (q e)
+
+-- what an entry uses of a head
+pub usesOf-one : Fixed usesOf
+usesOf-one = one-answer (of-back usesOf (λ (u : Entries.Uses). record { model = u .model; odds = u .odds; stamps = u .stamps; frame = u .frame }) (λ u. refl))
 
 -- the model of the band that a place lies in, by its steps
 pub stepsAt-one : (place : ℕ) → Fixed (λ (m : Model). stepsAt (modelOf m) place)

@@ -34,7 +34,7 @@ extents-pass es t =
     rw (none-too-small 0 es (and-l (allAtLeast leastExtent es) (fitsCapacity es) t), is-true (fitsCapacity es) (and-r (allAtLeast leastExtent es) (fitsCapacity es) t)) refl
 
 -- a frame that was opened is one that a sweep can have
-opened-open : (k : ℕ) → openFrame (openedFrame k) ≡ true
+pub opened-open : (k : ℕ) → openFrame (openedFrame k) ≡ true
 unfolding openFrame openedFrame
 opened-open k = go (leb highestFrame k) refl
   where

@@ -13,12 +13,12 @@ use Rattle.rules.specs.OneBeam.{Beam}
 use Rattle.rules.specs.Fields.{littleEndian, fromLittleEndian, floatSize, headSize, fieldSize, field, fieldHere}
 use Rattle.rules.specs.SweepFile.{axesTag, axesLength, stationTag, stationLength, beamTag, pointsLength, beamLength, countTag, countLength, beamsOffset}
 use Rattle.rules.specs.SweepFile.{Sweep, sweepOr, beamBytes, beamsBytes, sweepBytes, beamHere, beamIn, sweepEndIn, beamsIn, stationIn, sweepOf}
-use Rattle.theorems.specs.MapRecord.Words.{IsByte, AreBytes}
-use Rattle.theorems.specs.MapRecord.Each.{each-drop, both}
-use Rattle.theorems.specs.MapRecord.Bytes.{little-endian-again}
-use Rattle.theorems.specs.MapRecord.Numbers.{floats-again}
-use Rattle.theorems.specs.MapRecord.Fields.{Found, found, field-again}
-use Rattle.sweep_reader.proofs.Sound.{then-given}
+use Rattle.record_laws.specs.Words.{IsByte, AreBytes}
+use Rattle.record_laws.specs.Each.{each-drop, both}
+use Rattle.record_laws.specs.Bytes.{little-endian-again}
+use Rattle.record_laws.specs.Numbers.{floats-again}
+use Rattle.record_laws.specs.Fields.{Found, found, field-again}
+use Rattle.rows.proofs.Answers.{then-given}
 use Rattle.sweep_reader.proofs.Sound.{sweep-given}
 use Rattle.sweep_writer.proofs.Written.{byte-again}
 use Rattle.theorems.specs.SweepFile.Words.{Every, NoNanIn}

@@ -12,9 +12,9 @@ use Rattle.rules.specs.OneBeam.{Beam}
 use Rattle.rules.specs.Fields.{fromLittleEndian, headSize, fieldSize, fieldHere}
 use Rattle.rules.specs.SweepFile.{axesTag, axesLength, stationTag, stationLength, beamTag, pointsLength, beamLength, countTag, countLength, beamsOffset}
 use Rattle.rules.specs.SweepFile.{Sweep, sweepOr, beamHere, beamIn, sweepEndIn, beamsIn, stationIn, sweepOf}
-use Rattle.theorems.specs.MapRecord.Words.{FieldBegins, first}
-use Rattle.theorems.specs.MapRecord.Each.{both}
-use Rattle.theorems.specs.MapRecord.Fields.{Reached, reached-next, then-refused}
+use Rattle.record_laws.specs.Words.{FieldBegins, first}
+use Rattle.record_laws.specs.Each.{both}
+use Rattle.record_laws.specs.Fields.{Reached, reached-next, then-refused}
 
 -- a refusal of number 12 that names a place where a field begins
 pub record BrokenAt (bytes : List ℕ) (r : Refusal) : Type 0 where

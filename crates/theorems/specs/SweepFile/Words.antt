@@ -9,7 +9,7 @@ use Rattle.rules.specs.RefusalNumbers.Entries.{Outcome}
 use Rattle.rules.specs.TheGridAndItsBounds.{Grid}
 use Rattle.rules.specs.OneBeam.{Beam}
 use Rattle.rules.specs.SweepFile.{Sweep, Swept, sweepOf, mostBeams}
-use Rattle.theorems.specs.MapRecord.Words.{Are64, NoNan, FieldBegins}
+use Rattle.record_laws.specs.Words.{Are64, NoNan, FieldBegins}
 
 -- a fact of each beam of a list
 abbrev pub Every : (Beam → Type 0) → List Beam → Type 0

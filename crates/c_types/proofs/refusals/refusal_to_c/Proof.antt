@@ -59,10 +59,10 @@ returns-17 : tie.Need-returns-17
 returns-17 c = simp (c .bare10 .ensures, c .before .enum-told10 .given .1)
 
 returns-18 : tie.Need-returns-18
-returns-18 c = simp (c .at-place3 .ensures, c .before .before .refusal8 .given .1)
+returns-18 c = simp (c .bare11 .ensures, c .before .enum-told11 .given .1)
 
 returns-19 : tie.Need-returns-19
-returns-19 c = simp (c .bare11 .ensures, c .before .enum-told11 .given .1)
+returns-19 c = simp (c .at-place3 .ensures, c .before .before .refusal8 .given .1)
 
 returns-20 : tie.Need-returns-20
 returns-20 c = simp (c .bare12 .ensures, c .before .enum-told12 .given .1)
@@ -70,10 +70,15 @@ returns-20 c = simp (c .bare12 .ensures, c .before .enum-told12 .given .1)
 returns-21 : tie.Need-returns-21
 returns-21 c = simp (c .bare13 .ensures, c .before .enum-told13 .given .1)
 
+returns-22 : tie.Need-returns-22
+returns-22 c = simp (c .bare14 .ensures, c .before .enum-told14 .given .1)
+
 pub refusal-to-c-spec : {M : Type 1} → statement M
 refusal-to-c-spec =
     tie.close
     (tie.spec
+    (λ c. search needs)
+    (λ c κs. search needs)
     (λ c. search needs)
     (λ c κs. search needs)
     (λ c. search needs)
@@ -136,4 +141,5 @@ refusal-to-c-spec =
     returns-18
     returns-19
     returns-20
-    returns-21)
+    returns-21
+    returns-22)

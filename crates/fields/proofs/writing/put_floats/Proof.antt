@@ -46,7 +46,7 @@ loop-again c =
       omega arith,
       omega arith,
       c .before .before .put-f64 .kept .0 ∙ l .inv .2,
-      l .inv .3 ∙ ap (λ xs. sets (l .out) (l .here) (floatBytes xs)) (part-step (l .left) (l .place) (now (a .numbers)) (c .before .before .before .before .before .loop-test .taken) (l .inv .1))
+      l .inv .3 ∙ ap (λ xs. sets (l .out) (l .here) (floatBytes xs)) (part-step nan (l .left) (l .place) (now (a .numbers)) (c .before .before .before .before .before .loop-test .taken) (l .inv .1))
           ∙ ap (sets (l .out) (l .here)) (float-bytes-step x rest)
           ∙ run-on (littleEndian 8 (toBits binary64 x)) (floatBytes rest) (l .out) _ (l .here) 8 (length-little 8 (toBits binary64 x)) (c .before .before .put-f64 .ensures),
     )

@@ -3,6 +3,7 @@ use Prim.Native.Nat.{_+_, _≤_}
 use mathlib.Core.Path.{_≡_, refl, sym, ap, _∙_}
 use native.Mathlib.Omega.{arith}
 use denote.Ref.{now}
+use lib.Ieee.{nan}
 use lib.ListN.{length, take, drop}
 use borrow.Author.Needs.{needs}
 use Rattle.rules.specs.MapRecord.{oddsInBounds}
@@ -32,7 +33,7 @@ loop-again c =
     let a = c .before .before .before .before .before .before .args in
     let l = c .before .before .before .before .loop in (
       omega arith,
-      l .inv .1 ∙ ap (oddsInBounds (modelOf (a .model))) (part-step (l .left) (l .place) (now (a .odds)) (c .before .before .before .loop-test .taken) (l .inv .0))
+      l .inv .1 ∙ ap (oddsInBounds (modelOf (a .model))) (part-step nan (l .left) (l .place) (now (a .odds)) (c .before .before .before .loop-test .taken) (l .inv .0))
           ∙ bounds-kept (modelOf (a .model)) _ _ (sym (c .before .from-floor-to-ceiling .ensures) ∙ c .if1 .taken),
     )
 
@@ -40,7 +41,7 @@ returns : tie.Need-returns Inv-loop μ-loop
 returns c =
     let a = c .before .before .before .before .before .before .args in
     let l = c .before .before .before .before .loop in
-    sym (l .inv .1 ∙ ap (oddsInBounds (modelOf (a .model))) (part-step (l .left) (l .place) (now (a .odds)) (c .before .before .before .loop-test .taken) (l .inv .0))
+    sym (l .inv .1 ∙ ap (oddsInBounds (modelOf (a .model))) (part-step nan (l .left) (l .place) (now (a .odds)) (c .before .before .before .loop-test .taken) (l .inv .0))
     ∙ bounds-broken (modelOf (a .model)) _ _ (sym (c .before .from-floor-to-ceiling .ensures) ∙ c .if1 .left))
 
 returns-2 : tie.Need-returns-2 Inv-loop μ-loop

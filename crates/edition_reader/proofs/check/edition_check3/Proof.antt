@@ -1,0 +1,58 @@
+-- The edition, the extents, and then the rest.
+use Prim.Native.Nat.{_+_}
+use mathlib.Core.Path.{sym, _∙_}
+use native.Mathlib.Omega.{arith}
+use denote.Ref.{now}
+use borrow.Author.Needs.{needs}
+use Rattle.rules.specs.Fields.{fieldSize}
+use Rattle.rules.specs.MapRecord.{extentsTag, extentsLength}
+use Rattle.rules.specs.EditionTwo.{byteLength, cutsFor}
+use Rattle.types.specs.Points.{extents3}
+use Rattle.fields.proofs.Bytes.{whole-at, both-l}
+use Rattle.record_reader.proofs.Sound.{in-bounds}
+use Rattle.edition_reader.proofs.Steps.{edition-off, extents-off, extents-held}
+use Rattle.edition_reader.proofs.check.edition_check3.Statement.{statement}
+use Rattle.edition_reader.proofs.check.edition_check3.Tie as tie
+
+extents-field-at3-requires : tie.Need-extents-field-at3-requires
+extents-field-at3-requires c κs =
+    let a = c .before .before .before .before .before .args in
+    let w = whole-at extentsTag (extentsLength 3) (fieldSize byteLength) (now (a .bytes)) (both-l _ _ (sym (c .before .extents-sound3 .ensures) ∙ c .if2 .taken)) in
+    omega arith
+
+after-extents3-requires : tie.Need-after-extents3-requires
+after-extents3-requires c κs = in-bounds 3 _ _ (c .extents-field-at3 .ensures) (sym (c .before .before .extents-sound3 .ensures) ∙ c .before .if2 .taken)
+
+returns : tie.Need-returns
+unfolding cutsFor
+returns c =
+    let bytes = now (c .before .before .before .before .before .before .before .args .bytes) in
+    let read = c .before .extents-field-at3 in
+    let edition = sym (c .before .before .before .before .before .edition-sound .ensures) ∙ c .before .before .before .before .if1 .taken in
+    let extents = sym (c .before .before .before .extents-sound3 .ensures) ∙ c .before .before .if2 .taken in
+    c .after-extents3 .ensures ∙ sym (extents-held 3 bytes (extents3 (read .result)) (read .ensures) edition extents)
+
+returns-2 : tie.Need-returns-2
+returns-2 c =
+    let bytes = now (c .before .before .before .before .before .before .args .bytes) in
+    let edition = sym (c .before .before .before .before .edition-sound .ensures) ∙ c .before .before .before .if1 .taken in
+    c .record-broken .ensures ∙ sym (extents-off 3 bytes edition (sym (c .before .before .extents-sound3 .ensures) ∙ c .before .if2 .left))
+
+returns-3 : tie.Need-returns-3
+returns-3 c =
+    c .record-broken2 .ensures ∙ sym (edition-off 3 (now (c .before .before .before .before .args .bytes)) (sym (c .before .before .edition-sound .ensures) ∙ c .before .if1 .left))
+
+pub edition-check3-spec : {M : Type 1} → statement M
+edition-check3-spec =
+    tie.close
+    (tie.spec
+    (λ c κs. search needs)
+    (λ c κs. search needs)
+    extents-field-at3-requires
+    (λ c. search needs)
+    after-extents3-requires
+    returns
+    (λ c κs. search needs)
+    returns-2
+    (λ c κs. search needs)
+    returns-3)
