@@ -65,6 +65,7 @@ pub use reading::f64_at;
 pub use reading::field_here;
 pub use reading::u16_at;
 pub use reading::u32_at;
+pub use reading::u64_at;
 pub use writing::put_f64;
 pub use writing::put_field;
 pub use writing::put_floats;

@@ -36,7 +36,7 @@ pub fn u32_at(bytes: &[u8], at: usize) -> u32
 }
 
 // The eight bytes are there.
-fn u64_at(bytes: &[u8], at: usize) -> u64
+pub fn u64_at(bytes: &[u8], at: usize) -> u64
     requires { ⌜ at + 8 ≤ length (now bytes) ⌝ }
     ensures { λ r. ⌜ r ≡ fromLittleEndian 8 (drop at (now (bytes .entry))) ⌝ }
 {

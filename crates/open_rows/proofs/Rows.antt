@@ -2,24 +2,20 @@
 use Prim.Native.Nat.{ℕ, zero, suc, _+_, _-_, _*_, _≤_, _<_}
 use mathlib.Core.Bool.{true, false}
 use mathlib.Core.List.{List, _++_}
-use mathlib.Core.Option.{none}
-use mathlib.Core.Path.{_≡_, refl, sym, ap, _∙_}
-use native.Mathlib.Nat.{zero-mul, suc-mul}
+use mathlib.Core.Path.{_≡_, refl, ap, _∙_}
+use native.Mathlib.Nat.{suc-mul}
 use native.Mathlib.Omega.{arith}
 use lib.Ieee.{Float}
-use lib.ListN.{length, length-append, length-drop, take, drop}
+use lib.ListN.{length, length-append, take, drop}
 use lib.Seq.{drop-drop}
 use Rattle.rules.specs.RefusalNumbers.{andThen}
-use Rattle.rules.specs.RefusalNumbers.Entries.{orElse}
 use Rattle.rules.specs.TheGridAndItsBounds.{Model, Grid}
 use Rattle.rules.specs.Fields.{floatsIn, floatBytes, headSize, fieldSize, field, soundHere, soundOr, rowsOf, rowsTried}
 use Rattle.rules.specs.MapRecord.{rowTag, rowLength, rowField, oddsInBounds}
-use Rattle.rules.specs.EditionTwo.{stampsTag, stampsLength, stampsIn, stampBytes, noneAbove, stampsField, rowSize, rowBytes, behindRow, gridBytes, rowTried, gridTried}
+use Rattle.rules.specs.EditionTwo.{stampsTag, stampsLength, stampsIn, stampBytes, noneAbove, stampsField, rowSize, rowBytes, behindRow, gridBytes, gridTried}
 use Rattle.marks.specs.Marking.{gridOf}
-use Rattle.fields.proofs.Bytes.{both-l, whole}
 use Rattle.fields.proofs.Floats.{length-part, length-float-bytes, length-stamp-bytes, length-field}
 use Rattle.rows.specs.Rows.{refusalIn, unlessSound}
-use Rattle.rows.proofs.Answers.{sound-first, sound-next, sound-then}
 use Rattle.rows.proofs.Odds.{length-floats}
 use Rattle.open_rows.specs.OpenRows.{openOdds, openStamps, openRefusal}
 use Rattle.open_rows.proofs.Steps.{length-stamps}

@@ -1,5 +1,7 @@
-// One row of stamps: tried, read, and written. A stamp's frame is no higher than the record's.
+// One row of stamps: tried, read, and written. A stamp's frame is no higher than the record's: stamps get marks, as
+// numbers do in `rows`, and the marks of a row are looked at once.
 ghost use mathlib.Core.Path.{_≡_};
+ghost use mathlib.Core.Bool.{cond};
 ghost use Prim.Native.Nat.{_+_, _*_, _≤_};
 ghost use lib.Dec.{leb};
 ghost use lib.ListN.{length, take, drop};
@@ -17,11 +19,17 @@ use fields::put_words;
 use fields::u32_at;
 use types::Frame;
 
-// Its frame is this one or an earlier one.
-fn not_above(stamp: u32, frame: Frame) -> bool
-    ensures { λ r. ⌜ r ≡ leb (frameOf stamp) (frame .0) ⌝ }
+// The highest bit of 32.
+const HIGHEST: u32 = 0x8000_0000;
+
+// A stamp's mark: its highest bit says that the frame is not this one or an earlier one.
+fn mark_of(stamp: u32, frame: Frame) -> u32
+    ensures { λ r. ⌜ r ≡ cond (leb (frameOf stamp) (frame .0)) 0 0x8000_0000 ⌝ }
 {
-    stamp / 2 <= frame.0
+    if stamp / 2 <= frame.0 {
+        return 0;
+    }
+    HIGHEST
 }
 
 // The stamps of a row, none above the frame. The row's field stands whole.
@@ -31,15 +39,13 @@ fn row_not_above(bytes: &[u8], at: usize, width: usize, frame: Frame) -> bool
 {
     let mut here = at;
     let mut left = width;
+    let mut marks: u32 = 0;
     while left > 0 {
-        if not_above(u32_at(bytes, here), frame) {
-            here += WORD_SIZE;
-            left -= 1;
-        } else {
-            return false;
-        }
+        marks |= mark_of(u32_at(bytes, here), frame);
+        here += WORD_SIZE;
+        left -= 1;
     }
-    true
+    marks < HIGHEST
 }
 
 // Whether a field of stamps stands whole at a place, none above the frame. The extents have passed, so a row is short.
@@ -76,15 +82,13 @@ pub fn stamps_not_above(stamps: &[u32], from: usize, width: usize, frame: Frame)
 {
     let mut place = from;
     let mut left = width;
+    let mut marks: u32 = 0;
     while left > 0 {
-        if not_above(stamps[place], frame) {
-            place += 1;
-            left -= 1;
-        } else {
-            return false;
-        }
+        marks |= mark_of(stamps[place], frame);
+        place += 1;
+        left -= 1;
     }
-    true
+    marks < HIGHEST
 }
 
 // A field of stamps. The row is one of the list's and short, and there is room for it.

@@ -1,5 +1,9 @@
 pub mod Answers
 pub mod Odds
+pub mod Seen
+pub mod Magnitudes
+pub mod Patterns
+pub mod Marked
 pub mod Ceilings
 pub mod Shapes
 pub mod Tried

@@ -1,6 +1,6 @@
 -- The odds of a row and of all rows, one step at a time: what a loop over them has left. Assumes nothing.
 use Prim.Native.Nat.{ℕ, zero, suc, _+_, _-_, _*_, _<_}
-use mathlib.Core.Bool.{true, false, _&&_}
+use mathlib.Core.Bool.{_&&_}
 use mathlib.Core.List.{List, [], _∷_, _++_, append-nil}
 use mathlib.Core.Path.{_≡_, refl, ap, ap₂, _∙_}
 use native.Mathlib.Nat.{suc-mul}
@@ -10,18 +10,10 @@ use lib.ListN.{length, length-append, drop}
 use lib.Seq.{sets, sets-eq, drop-drop, drop-length}
 use Rattle.rules.specs.TheGridAndItsBounds.{Model, floor}
 use Rattle.rules.specs.Fields.{fromLittleEndian, floatsIn, headSize, fieldSize}
-use Rattle.rules.specs.MapRecord.{rowLength, fromFloorToCeiling, oddsInBounds}
+use Rattle.rules.specs.MapRecord.{rowLength, oddsInBounds}
 use Rattle.rows.specs.Rows.{oddsAt}
 
 -- ---- bounds
-pub bounds-broken : (m : Model) (x : Float) (xs : List Float) → fromFloorToCeiling m x ≡ false → oddsInBounds m (x ∷ xs) ≡ false
-unfolding oddsInBounds
-bounds-broken m x xs h = rw h refl
-
-pub bounds-kept : (m : Model) (x : Float) (xs : List Float) → fromFloorToCeiling m x ≡ true → oddsInBounds m (x ∷ xs) ≡ oddsInBounds m xs
-unfolding oddsInBounds
-bounds-kept m x xs h = rw h refl
-
 -- two models of one ceiling, whatever their pairs and cuts
 pub odds-by-ceiling : (m k : Model) → m .ceiling ≡ k .ceiling → (xs : List Float) → oddsInBounds m xs ≡ oddsInBounds k xs
 unfolding oddsInBounds floor

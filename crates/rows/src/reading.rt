@@ -5,10 +5,12 @@ ghost use lib.ListN.{length, drop};
 ghost use lib.Seq.{sets};
 ghost use Rattle.rules.specs.TheGridAndItsBounds.{mostExtent};
 ghost use Rattle.rules.specs.Fields.{fieldSize, floatsIn, soundHere};
-ghost use Rattle.rules.specs.MapRecord.{rowLength, rowField, fromFloorToCeiling, oddsInBounds};
+ghost use Rattle.rules.specs.MapRecord.{rowLength, rowField, oddsInBounds};
 ghost use Rattle.checks.specs.Checking.{checkOf};
 ghost use Rattle.types.specs.Models.{modelOf};
 ghost use Rattle.rows.specs.Rows.{oddsAt, rowsRefusal};
+use crate::bounds::HIGHEST;
+use crate::bounds::first_above;
 use crate::refusal::record_broken;
 use checks::Check;
 use fields::FLOAT_SIZE;
@@ -16,35 +18,24 @@ use fields::HEAD_SIZE;
 use fields::ROW_TAG;
 use fields::f64_at;
 use fields::field_here;
+use fields::u64_at;
 use types::Model;
-
-// From the floor to the ceiling, both included; a NaN is not.
-pub fn from_floor_to_ceiling(model: Model, x: f64) -> bool
-    ensures { λ r. ⌜ r ≡ fromFloorToCeiling (modelOf model) x ⌝ }
-{
-    let ceiling = model.ceiling;
-    if -ceiling <= x {
-        return x <= ceiling;
-    }
-    false
-}
 
 // The floats of a row, each within the bounds. The row's field stands whole.
 fn row_in_bounds(bytes: &[u8], at: usize, width: usize, model: Model) -> bool
     requires { ⌜ at + rowLength width ≤ length (now bytes) ⌝ }
     ensures { λ r. ⌜ r ≡ oddsInBounds (modelOf model) (floatsIn width (drop at (now (bytes .entry)))) ⌝ }
 {
+    let above = first_above(model);
     let mut here = at;
     let mut left = width;
+    let mut marks: u64 = 0;
     while left > 0 {
-        if from_floor_to_ceiling(model, f64_at(bytes, here)) {
-            here += FLOAT_SIZE;
-            left -= 1;
-        } else {
-            return false;
-        }
+        marks |= u64_at(bytes, here) % HIGHEST + HIGHEST - above;
+        here += FLOAT_SIZE;
+        left -= 1;
     }
-    true
+    marks < HIGHEST
 }
 
 // Whether a row's field stands whole at a place, with its odds within the bounds. The extents have passed, so a row is

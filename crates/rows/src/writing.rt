@@ -10,7 +10,8 @@ ghost use Rattle.rules.specs.MapRecord.{rowTag, rowLength, oddsInBounds, rowsBy
 ghost use Rattle.types.specs.Models.{modelOf};
 ghost use Rattle.checks.specs.Checking.{checkOf};
 ghost use Rattle.rows.specs.Rows.{refusalIn};
-use crate::reading::from_floor_to_ceiling;
+use crate::bounds::HIGHEST;
+use crate::bounds::mark_of;
 use crate::refusal::record_broken;
 use checks::Check;
 use fields::FLOAT_SIZE;
@@ -27,15 +28,13 @@ pub fn odds_in_bounds(odds: &[f64], from: usize, width: usize, model: Model) -> 
 {
     let mut place = from;
     let mut left = width;
+    let mut marks: u64 = 0;
     while left > 0 {
-        if from_floor_to_ceiling(model, odds[place]) {
-            place += 1;
-            left -= 1;
-        } else {
-            return false;
-        }
+        marks |= mark_of(model, odds[place]);
+        place += 1;
+        left -= 1;
     }
-    true
+    marks < HIGHEST
 }
 
 // All rows, or 10 with the offset of the first whose odds are not within the bounds. The rows are the list's, and their

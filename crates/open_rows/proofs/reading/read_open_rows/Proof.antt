@@ -1,5 +1,5 @@
 -- What is left to read completes the lists.
-use Prim.Native.Nat.{ℕ, _+_, _-_, _*_, _≤_}
+use Prim.Native.Nat.{_+_, _-_, _*_, _≤_}
 use mathlib.Core.Bool.{true}
 use mathlib.Core.Path.{_≡_, refl, sym, ap, _∙_}
 use native.Mathlib.Omega.{arith}
@@ -8,7 +8,7 @@ use lib.ListN.{length, drop}
 use lib.Seq.{sets}
 use Rattle.rules.specs.Fields.{fieldSize, floatsIn}
 use Rattle.rules.specs.MapRecord.{rowLength}
-use Rattle.rules.specs.EditionTwo.{stampsLength, stampsIn, rowSize}
+use Rattle.rules.specs.EditionTwo.{stampsIn, rowSize}
 use Rattle.fields.proofs.Stores.{run-on}
 use Rattle.fields.proofs.Floats.{one-of}
 use Rattle.rows.proofs.Odds.{length-floats}

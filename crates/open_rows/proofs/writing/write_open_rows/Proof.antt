@@ -1,5 +1,5 @@
 -- What is left to write completes the rows.
-use Prim.Native.Nat.{ℕ, _+_, _-_, _*_, _≤_}
+use Prim.Native.Nat.{_+_, _-_, _*_, _≤_}
 use mathlib.Core.Bool.{true}
 use mathlib.Core.Path.{_≡_, refl, sym, ap, _∙_}
 use native.Mathlib.Omega.{arith}
@@ -8,7 +8,7 @@ use lib.ListN.{length, take, drop}
 use lib.Seq.{sets}
 use Rattle.rules.specs.Fields.{floatBytes, field, fieldSize, rowsOf}
 use Rattle.rules.specs.MapRecord.{rowTag, rowLength}
-use Rattle.rules.specs.EditionTwo.{stampsTag, stampsLength, stampBytes, rowSize, rowBytes, gridBytes}
+use Rattle.rules.specs.EditionTwo.{stampsTag, stampBytes, rowSize, rowBytes, gridBytes}
 use Rattle.marks.specs.Marking.{gridOf}
 use Rattle.fields.proofs.Stores.{run-to, two-runs}
 use Rattle.fields.proofs.Floats.{one-of}

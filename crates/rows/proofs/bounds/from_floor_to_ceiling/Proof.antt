@@ -1,8 +1,8 @@
 -- By the two tests.
 use mathlib.Core.Path.{refl}
 use Rattle.rules.specs.TheGridAndItsBounds.{floor}
-use Rattle.rows.proofs.reading.from_floor_to_ceiling.Statement.{statement}
-use Rattle.rows.proofs.reading.from_floor_to_ceiling.Tie as tie
+use Rattle.rows.proofs.bounds.from_floor_to_ceiling.Statement.{statement}
+use Rattle.rows.proofs.bounds.from_floor_to_ceiling.Tie as tie
 
 returns : tie.Need-returns
 unfolding floor
