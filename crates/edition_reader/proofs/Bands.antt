@@ -1,12 +1,12 @@
 -- The pairs and the cuts of edition 2 as one part of the record, of any number of cuts. Assumes nothing.
 use Prim.Native.Nat.{ℕ, zero, suc, _+_, _-_, _*_, _≤_}
 use mathlib.Core.List.{List}
-use mathlib.Core.Option.{Option, none}
-use mathlib.Core.Path.{_≡_, refl, sym, ap, ap₂, _∙_}
+use mathlib.Core.Option.{none}
+use mathlib.Core.Path.{_≡_, ap, ap₂, _∙_}
 use native.Mathlib.Omega.{arith}
 use lib.ListN.{length, length-drop, drop}
 use lib.Seq.{drop-drop}
-use Rattle.rules.specs.RefusalNumbers.{Refusal, Answer}
+use Rattle.rules.specs.RefusalNumbers.{Answer}
 use Rattle.rules.specs.RefusalNumbers.Entries.{orElse}
 use Rattle.rules.specs.TheGridAndItsBounds.{Model}
 use Rattle.rules.specs.Fields.{fieldSize, Field, contents, Reading, fieldThen, rowsThen}

@@ -5,22 +5,21 @@ use mathlib.Core.List.{List, [], _++_}
 use mathlib.Core.Option.{Option, none}
 use mathlib.Core.Path.{_≡_, refl, sym, ap, ap₂, _∙_}
 use native.Mathlib.Omega.{arith}
-use lib.Ieee.{Float}
 use lib.ListN.{length, length-drop, drop}
 use lib.Seq.{drop-drop}
 use Rattle.rules.specs.RefusalNumbers.{Refusal, Answer, given}
 use Rattle.rules.specs.RefusalNumbers.Entries.{orElse}
 use Rattle.rules.specs.TheGridAndItsBounds.{Model, Head, Grid}
-use Rattle.rules.specs.Fields.{floatsIn, headSize, fieldSize, contents, soundHere, Reading, fieldThen, rowsThen}
+use Rattle.rules.specs.Fields.{floatsIn, headSize, fieldSize, contents, soundHere, Reading, fieldThen}
 use Rattle.rules.specs.MapRecord.{rowLength, rowField, rowWidth, rowCount, endThen}
 use Rattle.rules.specs.EditionTwo as E
 use Rattle.rules.specs.EditionTwo.{Kept, kept, stampsIn, stampsLength, stampsField, rowThen, rowSize, gridOfRows}
 use Rattle.marks.specs.Marking.{gridOf}
 use Rattle.rows.specs.Rows.{refusalIn, unlessSound, fieldBroken, rowsBroken, rowsHave, oddsAt, rowsRefusal}
-use Rattle.rows.proofs.Answers.{sound-else, none-first, none-next, sound-first, sound-next}
+use Rattle.rows.proofs.Answers.{sound-else, none-first, none-next}
 use Rattle.rows.proofs.Parts.{IsPart, field-part, rows-part}
 use Rattle.open_rows.specs.OpenRows.{openRefusal, openOdds, openStamps}
-use Rattle.record_reader.specs.Reading.{endRefusal, rowsAndEnd}
+use Rattle.record_reader.specs.Reading.{rowsAndEnd}
 use Rattle.record_reader.proofs.Sound.{end-refusal, end-on}
 use Rattle.edition_reader.specs.Editions.{openAndEnd}
 

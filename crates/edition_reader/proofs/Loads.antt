@@ -12,10 +12,10 @@ use borrow.Author.Tests.{eq-eqb, ne-eqb}
 use Rattle.rules.specs.RefusalNumbers.{given, refused, badBuffer}
 use Rattle.rules.specs.RefusalNumbers.Entries.{Outcome}
 use Rattle.rules.specs.RefusalNumbers.Editions.{Loaded, readEditionEntry}
-use Rattle.rules.specs.TheGridAndItsBounds.{Model, Head, Grid, cells, onePerCell}
+use Rattle.rules.specs.TheGridAndItsBounds.{Model, Grid, cells, onePerCell}
 use Rattle.rules.specs.Fields.{fieldSize, contents}
-use Rattle.rules.specs.MapRecord.{rowLength, frameField}
-use Rattle.rules.specs.EditionTwo.{Kept, kept, byteLength, cutsFor, openField, marksRunning, rowSize}
+use Rattle.rules.specs.MapRecord.{frameField}
+use Rattle.rules.specs.EditionTwo.{kept, byteLength, cutsFor, openField, marksRunning, rowSize}
 use Rattle.marks.specs.Marking.{gridOf}
 use Rattle.rows.specs.Rows.{oddsAt}
 use Rattle.rows.proofs.Shapes.{Shape}

@@ -1,31 +1,27 @@
 -- A record of edition 2: its refusal field by field, and what one that is not refused holds. Over any number of axes.
 -- Assumes nothing.
-use Prim.Native.Nat.{ℕ, zero, suc, _+_, _*_, _≤_}
-use mathlib.Core.Bool.{Bool, true, false, cond}
-use mathlib.Core.List.{List, [], _++_}
-use mathlib.Core.Option.{Option, none}
-use mathlib.Core.Path.{_≡_, refl, sym, ap, ap₂, _∙_}
+use Prim.Native.Nat.{ℕ, _+_, _*_, _≤_}
+use mathlib.Core.Bool.{Bool}
+use mathlib.Core.List.{List}
+use mathlib.Core.Option.{none}
+use mathlib.Core.Path.{_≡_, refl, sym, ap, _∙_}
 use native.Mathlib.Nat.{zero-add}
 use native.Mathlib.Omega.{arith}
-use lib.Ieee.{Float}
-use lib.ListN.{length, length-drop, drop, replicate}
+use lib.ListN.{length, length-drop, drop}
 use lib.Seq.{drop-drop}
-use Rattle.rules.specs.RefusalNumbers.{Refusal, Answer, given}
+use Rattle.rules.specs.RefusalNumbers.{given}
 use Rattle.rules.specs.RefusalNumbers.Entries.{orElse}
-use Rattle.rules.specs.TheGridAndItsBounds.{Model, Head, Grid, cells, extentsInBounds}
+use Rattle.rules.specs.TheGridAndItsBounds.{Model, Head, extentsInBounds}
 use Rattle.rules.specs.Fields.{fieldSize, fieldHere, contents, soundHere, Reading, fieldThen}
 use Rattle.rules.specs.MapRecord.{extentsTag, extentsLength, extentsField, frameTag, frameLength, frameField, rowWidth, rowCount}
 use Rattle.rules.specs.EditionTwo as E
 use Rattle.rules.specs.EditionTwo.{Kept, kept, byteLength, editionField, cutsFor, openTag, openField, marksRunning, bandsThen, bandsSize, rowSize, editionOf}
 use Rattle.laws.specs.Checks.{InBounds}
 use Rattle.fields.proofs.Bytes.{both-l, both-r, whole}
-use Rattle.marks.specs.Marking.{gridOf}
-use Rattle.rows.specs.Rows.{refusalIn, unlessSound, oddsAt}
+use Rattle.rows.specs.Rows.{refusalIn, unlessSound}
 use Rattle.rows.proofs.Answers.{sound-first, sound-next, none-first, none-next, field-refusal, field-on}
-use Rattle.rows.proofs.Parts.{IsPart}
-use Rattle.open_rows.specs.OpenRows.{openOdds, openStamps}
 use Rattle.record_reader.proofs.Sound.{extents-in-bounds}
-use Rattle.edition_reader.specs.Editions.{afterFrame, afterBands, bandsBroken, bandsHere, afterExtents, gridHere, bandsAt, frameAt, markAt, extentsHere, headHere, runningHere, keptIn}
+use Rattle.edition_reader.specs.Editions.{afterFrame, afterBands, bandsBroken, bandsHere, afterExtents, bandsAt, frameAt, markAt, extentsHere, headHere, runningHere}
 use Rattle.edition_reader.proofs.Bands.{bands-part}
 use Rattle.edition_reader.proofs.Grids.{grid-refusal, held, grid-on, grid-room}
 

@@ -1,8 +1,8 @@
 -- Trying a record of edition 2 field by field, as the code goes: each is sound and the next one is tried, or it is where
 -- the record is broken. Assumes nothing.
 use Prim.Native.Nat.{ℕ, zero, suc, _+_, _*_, _≤_}
-use mathlib.Core.Bool.{Bool, true, false, cond, _&&_}
-use mathlib.Core.List.{List, [], _∷_}
+use mathlib.Core.Bool.{Bool, true, false, _&&_}
+use mathlib.Core.List.{List}
 use mathlib.Core.Option.{Option, some, none}
 use mathlib.Core.Path.{_≡_, refl, sym, ap, ap₂, _∙_}
 use native.Mathlib.Omega.{arith}
@@ -13,14 +13,14 @@ use Rattle.rules.specs.RefusalNumbers.{Refusal, brokenRecord}
 use Rattle.rules.specs.RefusalNumbers.Entries.{orElse}
 use Rattle.rules.specs.TheGridAndItsBounds.{Model, cutsInBounds}
 use Rattle.rules.specs.Fields.{floatsIn, headSize, fieldSize, fieldHere, contents, soundHere}
-use Rattle.rules.specs.MapRecord.{extentsField, modelTag, modelLength, modelField, frameLength, frameField, rowTag, rowLength, rowField, rowWidth, rowCount}
-use Rattle.rules.specs.EditionTwo.{Kept, byteLength, editionField, pairField, cutsTag, cutsLength, cutsFor, cutsField, openField, marksRunning, stampsField, rowSize, bandsSize, editionOf}
-use Rattle.rows.specs.Rows.{refusalIn, unlessSound, fieldBroken, rowsBroken, rowsHave, rowsRefusal}
+use Rattle.rules.specs.MapRecord.{extentsField, modelLength, modelField, frameLength, frameField, rowTag, rowLength, rowField}
+use Rattle.rules.specs.EditionTwo.{Kept, byteLength, editionField, pairField, cutsTag, cutsLength, cutsFor, openField, marksRunning, stampsField, rowSize, bandsSize, editionOf}
+use Rattle.rows.specs.Rows.{refusalIn, unlessSound, rowsBroken, rowsRefusal}
 use Rattle.rows.proofs.Shapes.{Shape}
 use Rattle.rows.proofs.Odds.{odds-by-ceiling}
 use Rattle.open_rows.specs.OpenRows.{openRefusal}
 use Rattle.record_reader.specs.Reading.{endRefusal, rowsAndEnd}
-use Rattle.edition_reader.specs.Editions.{openAndEnd, afterFrame, afterBands, pairsBroken, pairsHere, cutsAt, cutsBroken, bandsBroken, bandsHere, afterExtents, bandsAt, extentsHere}
+use Rattle.edition_reader.specs.Editions.{openAndEnd, afterFrame, afterBands, cutsAt, cutsBroken, bandsBroken, bandsHere, afterExtents, bandsAt, extentsHere}
 use Rattle.edition_reader.proofs.Bands.{bands-part}
 use Rattle.edition_reader.proofs.Sounds.{edition-refusal}
 

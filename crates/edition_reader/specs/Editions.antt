@@ -3,7 +3,7 @@
 use Prim.Native.Nat.{ℕ, zero, suc, _+_, _*_}
 use mathlib.Core.Bool.{Bool, true, cond}
 use mathlib.Core.List.{List}
-use mathlib.Core.Option.{Option, none}
+use mathlib.Core.Option.{Option}
 use lib.ListN.{drop, replicate}
 use Rattle.rules.specs.RefusalNumbers.{Refusal}
 use Rattle.rules.specs.RefusalNumbers.Entries.{orElse}

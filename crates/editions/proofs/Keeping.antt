@@ -1,8 +1,8 @@
 -- What a sound record of edition 2 keeps, for the moves. Over any number of axes. Assumes nothing.
 use Prim.Native.Nat.{ℕ, _+_}
-use mathlib.Core.Bool.{Bool, true, false, not, _&&_}
-use mathlib.Core.List.{List, []}
-use mathlib.Core.Path.{_≡_, refl, sym, ap, _∙_}
+use mathlib.Core.Bool.{Bool, true, false}
+use mathlib.Core.List.{List}
+use mathlib.Core.Path.{_≡_, refl, ap, _∙_}
 use lib.ListN.{length, drop}
 use Rattle.rules.specs.RefusalNumbers.Editions.{hasEditionOne}
 use Rattle.rules.specs.Fields.{fieldSize}

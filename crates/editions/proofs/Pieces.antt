@@ -1,13 +1,13 @@
 -- The bytes of a record as the pieces that the moves copy: in both editions the extents and the first pair stand
 -- together, then, behind what edition 2 has between, the frame, and behind the mark the rows and the end. Over any
 -- number of axes. Assumes nothing.
-use Prim.Native.Nat.{ℕ, _+_, _-_, _*_, _≤_}
-use mathlib.Core.Bool.{Bool, true, false}
-use mathlib.Core.List.{List, [], _∷_, _++_, append-assoc, append-nil}
+use Prim.Native.Nat.{ℕ, _+_, _-_}
+use mathlib.Core.Bool.{Bool, false}
+use mathlib.Core.List.{List, [], _∷_, _++_, append-assoc}
 use mathlib.Core.Path.{_≡_, refl, sym, ap, ap₂, _∙_}
 use native.Mathlib.Omega.{arith}
 use lib.Ieee.{Float}
-use lib.ListN.{length, length-append, length-drop, take, drop}
+use lib.ListN.{length, length-append, take, drop}
 use lib.Seq.{take-at, drop-at}
 use Rattle.rules.specs.RefusalNumbers.{given}
 use Rattle.rules.specs.RefusalNumbers.Editions.{unstamped}
@@ -15,10 +15,10 @@ use Rattle.rules.specs.TheGridAndItsBounds.{Model, Head, Grid}
 use Rattle.rules.specs.Fields.{littleEndian, wordSize, floatBytes, fieldSize, field}
 use Rattle.rules.specs.MapRecord.{Stored, extentsTag, extentsLength, extentBytes, modelTag, modelLength, modelBytes, frameTag, frameLength, endTag}
 use Rattle.rules.specs.MapRecord.{rowLength, rowWidth, rowCount, rowsBytes, recordBytes, recordOf, rowsOffset, recordSize}
-use Rattle.rules.specs.EditionTwo.{Kept, byteLength, editionTag, editionTwo, openTag, cutsFor, pairsBytes, cutsBytes, bandsBytes, bandsSize, gridBytes, rowSize, gridOffset, editionSize, editionBytes, editionOf}
+use Rattle.rules.specs.EditionTwo.{Kept, byteLength, editionTag, editionTwo, openTag, cutsFor, pairsBytes, cutsBytes, bandsBytes, bandsSize, rowSize, gridOffset, editionSize, editionBytes, editionOf}
 use Rattle.record_laws.specs.Words.{AreBytes}
-use Rattle.record_laws.specs.Read.{read-again, read-sound}
-use Rattle.record_laws.specs.EditionTwo.Read.{edition-again, edition-sound}
+use Rattle.record_laws.specs.Read.{read-again}
+use Rattle.record_laws.specs.EditionTwo.Read.{edition-again}
 use Rattle.record_laws.specs.EditionTwo.Written.{bands-length}
 use Rattle.record_writer.proofs.Fields.{length-extents}
 use Rattle.edition_writer.proofs.Rows.{closed-bytes}

@@ -6,7 +6,7 @@ ghost use lib.Ieee.{binary64};
 ghost use Rattle.rules.specs.RefusalNumbers.Entries.{headRefusal, newEntry, resetEntry, beginScanEntry};
 ghost use Rattle.rules.specs.RefusalNumbers.Entries.{cellContainingEntry, logOddsAtEntry, sampleLogOddsEntry, setLogOddsEntry, setLogOddsCheckedEntry};
 ghost use Rattle.types.specs.Answers.{cellAnswer3, oddsAnswer, sampleAnswer3};
-ghost use Rattle.types.specs.Models.{modelOf, bandsOf};
+ghost use Rattle.types.specs.Models.{bandsOf};
 ghost use Rattle.types.specs.Points.{cell3, extents3, point3};
 ghost use Rattle.checks.specs.Checking.{checkOf, usesOf};
 ghost use Rattle.grid_map.specs.Heads.{head3, mapOutcome3, openOutcome3, setOutcome};

@@ -31,7 +31,7 @@ use Rattle.record_laws.specs.Fields.{begins-within}
 use Rattle.record_laws.specs.Heads.{rows-are-cells, tests-of-writing}
 use Rattle.record_laws.specs.Back.{record-bytes-length, writable-is, record-back}
 use Rattle.record_laws.specs.Read.{read-again, read-sound, read-axes, record-broken}
-use Rattle.theorems.specs.MapRecord.Entries.{cutsFit, reads, read-from, same-reading, wrote-into, writes}
+use Rattle.theorems.specs.MapRecord.Entries.{cutsFit, reads, read-from, same-reading, wrote-into}
 
 -- ---- written, then read
 -- A map that can be written is read again from its record as it was: the same extents, the same pair of steps, bounds

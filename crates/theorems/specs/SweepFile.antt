@@ -19,10 +19,10 @@ use lib.Ieee.{Float, Format}
 use lib.ListN.{length, take, drop}
 use lib.Seq.{take-at}
 use Rattle.rules.specs.RefusalNumbers.{Refusal, Answer, given, refused, brokenSweep}
-use Rattle.rules.specs.RefusalNumbers.Entries.{Outcome, updateScanEntry}
+use Rattle.rules.specs.RefusalNumbers.Entries.{updateScanEntry}
 use Rattle.rules.specs.TheGridAndItsBounds.{Head, Grid}
 use Rattle.rules.specs.OneBeam.{Beam, beamsOf}
-use Rattle.rules.specs.SweepFile.{Sweep, Swept, sweepBytes, sweepSize, sweepOf, updateSweepEntry, writeSweepEntry}
+use Rattle.rules.specs.SweepFile.{Sweep, sweepBytes, sweepSize, sweepOf, updateSweepEntry, writeSweepEntry}
 use Rattle.record_laws.specs.Words.{AreBytes, Are64}
 use Rattle.record_laws.specs.Fields.{begins-within}
 use Rattle.theorems.specs.SweepFile.Words.{Every, NoNanIn, Writable, IsSweep, IsBroken, mailedBy}

@@ -1,18 +1,17 @@
 -- Edition 1 and bands: a head whose pairs are equal is its plain head with its cuts; and a plain head with cuts is
 -- written as it was. Assumes nothing.
 use Prim.Native.Nat.{ℕ}
-use mathlib.Core.Bool.{Bool, true, _&&_}
+use mathlib.Core.Bool.{Bool, true}
 use mathlib.Core.List.{List, [], _∷_, _++_}
 use mathlib.Core.Option.{none}
 use mathlib.Core.Path.{_≡_, refl, sym, ap, ap₂, _∙_}
-use lib.Dec.{eqb}
 use lib.ListN.{length, drop}
 use lib.Ieee.{Float, binary64, toBits}
 use borrow.Author.Tests.{eq-eqb}
 use Rattle.rules.specs.RefusalNumbers.{given}
 use Rattle.rules.specs.RefusalNumbers.Entries.{headRefusal, usesOf, writing, writeRecordEntry}
 use Rattle.rules.specs.TheGridAndItsBounds.{Pair, Band, Model, Head, pairBounded, allPairs, bounded}
-use Rattle.rules.specs.MapRecord.{Stored, recordBytes, sameBits, samePair, equalPairs, pairsChecked, bandsFrom, modelWithCuts, withCuts, writable}
+use Rattle.rules.specs.MapRecord.{Stored, recordBytes, sameBits, samePair, equalPairs, bandsFrom, modelWithCuts, withCuts, writable}
 use Rattle.record_laws.specs.Words.{Is64, Held, HeldBands, LaidOn, cutsOf, plainHead}
 use Rattle.record_laws.specs.Each.{both}
 use Rattle.record_laws.specs.Numbers.{same-float}

@@ -11,7 +11,7 @@ use Rattle.rules.specs.RefusalNumbers.{Refusal, Answer, given, refused, andThen
 use Rattle.rules.specs.OneBeam.{Beam}
 use Rattle.rules.specs.Fields.{fromLittleEndian, headSize, fieldSize, fieldHere}
 use Rattle.rules.specs.SweepFile.{axesTag, axesLength, stationTag, stationLength, beamTag, pointsLength, beamLength, countTag, countLength, beamsOffset}
-use Rattle.rules.specs.SweepFile.{Sweep, sweepOr, beamHere, beamIn, sweepEndIn, beamsIn, stationIn, sweepOf}
+use Rattle.rules.specs.SweepFile.{sweepOr, beamHere, beamIn, sweepEndIn, beamsIn, stationIn, sweepOf}
 use Rattle.record_laws.specs.Words.{FieldBegins, first}
 use Rattle.record_laws.specs.Each.{both}
 use Rattle.record_laws.specs.Fields.{Reached, reached-next, then-refused}

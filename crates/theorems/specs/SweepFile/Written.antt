@@ -13,7 +13,7 @@ use Rattle.rules.specs.RefusalNumbers.{given}
 use Rattle.rules.specs.OneBeam.{Beam}
 use Rattle.rules.specs.Fields.{littleEndian, fromLittleEndian, floatSize, floatBytes, headSize, fieldSize, field, fieldHere}
 use Rattle.rules.specs.SweepFile.{axesTag, axesLength, stationTag, stationLength, beamTag, pointsLength, beamLength, countTag, countLength, beamsOffset}
-use Rattle.rules.specs.SweepFile.{Sweep, beamBytes, beamsBytes, sweepBytes, beamHere, beamIn, sweepEndIn, beamsIn, stationIn, sweepOf, mostBeams}
+use Rattle.rules.specs.SweepFile.{beamBytes, beamsBytes, sweepBytes, beamHere, beamIn, sweepEndIn, beamsIn, stationIn, sweepOf, mostBeams}
 use Rattle.record_laws.specs.Bytes.{little-endian-length, little-endian-back}
 use Rattle.record_laws.specs.Numbers.{float-bytes-length, floats-back}
 use Rattle.record_laws.specs.Fields.{field-length, field-contents, field-after, field-found}

@@ -1,7 +1,6 @@
 -- The places left fall with each turn.
 use Prim.Native.Nat.{_≤_, _-_}
 use native.Mathlib.Omega.{arith}
-use lib.ListN.{length}
 use borrow.Author.Needs.{needs}
 use Rattle.damaged_records.proofs.copies.place.Statement.{statement}
 use Rattle.damaged_records.proofs.copies.place.Tie as tie

@@ -1,5 +1,4 @@
 -- The edition, the extents, and then the rest.
-use Prim.Native.Nat.{_+_}
 use mathlib.Core.Path.{sym, _∙_}
 use native.Mathlib.Omega.{arith}
 use denote.Ref.{now}

@@ -7,11 +7,11 @@ use native.Mathlib.Omega.{arith}
 use lib.ListN.{drop}
 use lib.Seq.{drop-drop}
 use borrow.Author.Needs.{needs}
-use Rattle.rules.specs.TheGridAndItsBounds.{Model, layerOf}
+use Rattle.rules.specs.TheGridAndItsBounds.{Model}
 use Rattle.rules.specs.Fields.{fromLittleEndian, shortSize, headSize, fieldSize, contents}
 use Rattle.rules.specs.MapRecord.{modelLength, modelField, extentsIn}
 use Rattle.rules.specs.EditionTwo.{bandsSize, bandsOver, laid}
-use Rattle.types.specs.Models.{modelOf, pairOf, bandsOf}
+use Rattle.types.specs.Models.{modelOf, bandsOf}
 use Rattle.types.specs.Points.{extents3}
 use Rattle.types.specs.declared.model.Model as Plain
 use Rattle.types.specs.declared.model.Pair as Pair

@@ -1,6 +1,5 @@
 -- The mark decides which rows there are.
-use Prim.Native.Nat.{_*_}
-use mathlib.Core.Path.{refl, sym, ap, _∙_}
+use mathlib.Core.Path.{sym, _∙_}
 use native.Mathlib.Nat.{mul-comm}
 use native.Mathlib.Omega.{arith}
 use denote.Ref.{now}

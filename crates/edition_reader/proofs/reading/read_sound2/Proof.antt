@@ -1,11 +1,8 @@
 -- The record is sound; the lists decide, and then they are filled.
-use Prim.Native.Nat.{_+_, _*_}
-use mathlib.Core.Path.{refl, sym, ap, _∙_, subst}
 use native.Mathlib.Omega.{arith}
 use denote.Ref.{now}
 use borrow.Author.Needs.{needs}
 use Rattle.rules.specs.EditionTwo.{cutsFor, bandsSize}
-use Rattle.types.specs.Models.{modelOf}
 use Rattle.rows.proofs.Shapes.{shape2, few}
 use Rattle.edition_reader.specs.Editions.{bandsHere}
 use Rattle.edition_reader.proofs.Sounds.{sound}

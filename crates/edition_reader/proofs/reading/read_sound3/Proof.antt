@@ -1,6 +1,6 @@
 -- The record is sound; the lists decide, and then they are filled.
-use Prim.Native.Nat.{_+_, _*_}
-use mathlib.Core.Path.{refl, sym, ap, _∙_, subst}
+use Prim.Native.Nat.{_*_}
+use mathlib.Core.Path.{sym, ap, _∙_, subst}
 use native.Mathlib.Nat.{mul-le-mul}
 use mir.Facts.{fits-le, fits-lit}
 use native.Mathlib.Omega.{arith}
@@ -9,7 +9,6 @@ use lib.ListN.{drop}
 use borrow.Author.Needs.{needs}
 use Rattle.rules.specs.EditionTwo.{cutsFor, bandsSize}
 use Rattle.laws.specs.Checks.{InBounds}
-use Rattle.types.specs.Models.{bandsOf}
 use Rattle.types.specs.Points.{extents3}
 use Rattle.rows.proofs.Shapes.{shape3, few}
 use Rattle.edition_reader.specs.Editions.{bandsHere, bandsAt}

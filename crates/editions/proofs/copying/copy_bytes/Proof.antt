@@ -6,7 +6,6 @@ use native.Mathlib.Numerals.{add-one}
 use denote.Ref.{now}
 use lib.ListN.{length, length-set, take, drop}
 use lib.Seq.{sets}
-use borrow.Author.Needs.{needs}
 use Rattle.fields.proofs.Floats.{part-step}
 use Rattle.editions.proofs.copying.copy_bytes.Statement.{statement}
 use Rattle.editions.proofs.copying.copy_bytes.Tie as tie

@@ -1,22 +1,18 @@
 -- The record is sound and edition 1 has it; the room decides, and then its pieces are copied.
-use Prim.Native.Nat.{ℕ, _+_, _-_}
-use mathlib.Core.Bool.{true, false}
-use mathlib.Core.List.{List, _++_}
-use mathlib.Core.Path.{_≡_, refl, sym, ap, _∙_}
+use Prim.Native.Nat.{_+_, _-_}
+use mathlib.Core.Bool.{true}
+use mathlib.Core.List.{_++_}
 use native.Mathlib.Omega.{arith}
 use denote.Ref.{now}
 use lib.ListN.{length, take, drop}
 use borrow.Author.Needs.{needs}
-use Rattle.rules.specs.Fields.{fieldSize}
-use Rattle.rules.specs.MapRecord.{frameLength}
-use Rattle.rules.specs.EditionTwo.{byteLength, cutsFor, bandsSize}
+use Rattle.rules.specs.EditionTwo.{cutsFor, bandsSize}
 use Rattle.record_laws.specs.Words.{AreBytes}
 use Rattle.record_laws.specs.EditionTwo.Read.{edition-sound}
 use Rattle.edition_reader.specs.Editions.{extentsHere}
 use Rattle.edition_reader.proofs.Sounds.{sound}
-use Rattle.editions.specs.Moves.{sizeAlone}
-use Rattle.editions.proofs.Keeping.{keptAt, open-has-none, closed-has, closed-size, one-pair}
-use Rattle.editions.proofs.Pieces.{frameIn, moved-back, size3}
+use Rattle.editions.proofs.Keeping.{keptAt, closed-has, closed-size}
+use Rattle.editions.proofs.Pieces.{moved-back, size3}
 use Rattle.editions.proofs.Moved.{length-back, back-no-room, back-done}
 use Rattle.editions.proofs.down.downgrade_equal3.Statement.{statement}
 use Rattle.editions.proofs.down.downgrade_equal3.Tie as tie

@@ -1,21 +1,14 @@
 -- The record is sound; whether its sweep is open decides.
-use Prim.Native.Nat.{ℕ, _+_, _-_}
-use mathlib.Core.Bool.{true, false}
-use mathlib.Core.List.{List, _++_}
-use mathlib.Core.Path.{_≡_, refl, sym, ap, _∙_}
+use Prim.Native.Nat.{_-_}
+use mathlib.Core.Path.{sym, ap, _∙_}
 use native.Mathlib.Omega.{arith}
 use denote.Ref.{now}
-use lib.ListN.{length, take, drop}
 use borrow.Author.Needs.{needs}
-use Rattle.rules.specs.Fields.{fieldSize}
-use Rattle.rules.specs.MapRecord.{frameLength}
-use Rattle.rules.specs.EditionTwo.{byteLength, cutsFor, bandsSize}
-use Rattle.record_laws.specs.Words.{AreBytes}
+use Rattle.rules.specs.EditionTwo.{cutsFor, bandsSize}
 use Rattle.record_laws.specs.EditionTwo.Read.{edition-sound}
-use Rattle.edition_reader.specs.Editions.{extentsHere}
 use Rattle.edition_reader.proofs.Sounds.{sound}
 use Rattle.editions.specs.Moves.{sizeAlone}
-use Rattle.editions.proofs.Keeping.{keptAt, open-has-none, closed-has, closed-size, one-pair}
+use Rattle.editions.proofs.Keeping.{keptAt, open-has-none}
 use Rattle.editions.proofs.Moved.{not-back}
 use Rattle.editions.proofs.down.downgrade_sound2.Statement.{statement}
 use Rattle.editions.proofs.down.downgrade_sound2.Tie as tie

@@ -1,21 +1,16 @@
 -- The record is sound; whether its sweep is open decides, then whether its pairs are equal.
-use Prim.Native.Nat.{ℕ, _+_, _-_}
+use Prim.Native.Nat.{ℕ, _-_}
 use mathlib.Core.Bool.{true, false}
-use mathlib.Core.List.{List, _++_}
+use mathlib.Core.List.{List}
 use mathlib.Core.Path.{_≡_, refl, sym, ap, _∙_}
 use native.Mathlib.Omega.{arith}
 use denote.Ref.{now}
-use lib.ListN.{length, take, drop}
+use lib.ListN.{drop}
 use borrow.Author.Needs.{needs}
-use Rattle.rules.specs.Fields.{fieldSize}
-use Rattle.rules.specs.MapRecord.{frameLength}
-use Rattle.rules.specs.EditionTwo.{byteLength, cutsFor, bandsSize}
-use Rattle.record_laws.specs.Words.{AreBytes}
+use Rattle.rules.specs.EditionTwo.{cutsFor, bandsSize}
 use Rattle.record_laws.specs.EditionTwo.Read.{edition-sound}
-use Rattle.edition_reader.specs.Editions.{extentsHere}
 use Rattle.edition_reader.proofs.Sounds.{sound}
-use Rattle.editions.specs.Moves.{sizeAlone}
-use Rattle.editions.proofs.Keeping.{keptAt, open-has-none, closed-has, closed-size, one-pair}
+use Rattle.editions.proofs.Keeping.{keptAt, open-has-none, closed-has}
 use mathlib.Core.Bool.{Bool, _&&_}
 use Rattle.rules.specs.TheGridAndItsBounds.{Model}
 use Rattle.rules.specs.MapRecord.{samePair, equalPairs}
@@ -24,7 +19,7 @@ use Rattle.types.specs.Models.{pairOf, bandsOf, cutsOf}
 use Rattle.types.specs.declared.points.Extents3.{Extents3}
 use Rattle.types.specs.declared.model.Bands.{Bands}
 use Rattle.types.specs.Points.{extents3}
-use Rattle.edition_reader.specs.Editions.{bandsHere, bandsAt, headHere}
+use Rattle.edition_reader.specs.Editions.{bandsHere, bandsAt}
 use Rattle.editions.specs.Moves.{equalHere, cutsHere}
 use Rattle.editions.proofs.Moved.{not-back}
 use Rattle.editions.proofs.down.downgrade_sound3.Statement.{statement}

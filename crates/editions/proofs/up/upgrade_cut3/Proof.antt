@@ -1,13 +1,13 @@
 -- The record is sound and the cuts fit; the room decides, and then its pieces are copied.
-use Prim.Native.Nat.{ℕ, _+_, _*_, _≤_, _<_}
+use Prim.Native.Nat.{ℕ, _+_, _≤_, _<_}
 use mathlib.Core.Bool.{true, _&&_}
 use mathlib.Core.List.{List, [], _∷_, _++_, append-nil, append-assoc}
-use mathlib.Core.Path.{_≡_, refl, sym, ap, _∙_}
+use mathlib.Core.Path.{_≡_, refl, _∙_}
 use native.Mathlib.Omega.{arith}
 use denote.Ref.{now}
 use lib.Dec.{ltb}
 use lib.ListN.{length, length-append, take, drop}
-use lib.Seq.{sets, length-take-le}
+use lib.Seq.{length-take-le}
 use borrow.Author.Tests.{ltb-true}
 use borrow.Author.Needs.{needs}
 use Rattle.rules.specs.TheGridAndItsBounds.{Model, lastExtent, rising, cutsBelow, cutsInBounds}

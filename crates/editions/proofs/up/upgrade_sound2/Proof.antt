@@ -1,6 +1,6 @@
 -- The record is sound; the room decides, and then its pieces are copied.
-use Prim.Native.Nat.{ℕ, _+_, _*_}
-use mathlib.Core.List.{List, [], _∷_, _++_, append-nil}
+use Prim.Native.Nat.{ℕ, _+_}
+use mathlib.Core.List.{List, [], _++_, append-nil}
 use mathlib.Core.Path.{_≡_, refl, sym, ap, _∙_}
 use native.Mathlib.Omega.{arith}
 use denote.Ref.{now}
@@ -8,7 +8,7 @@ use lib.ListN.{length, length-append, take, drop}
 use lib.Seq.{sets, length-take-le}
 use borrow.Author.Needs.{needs}
 use Rattle.rules.specs.Fields.{littleEndian, field, fieldSize}
-use Rattle.rules.specs.MapRecord.{extentsLength, modelLength, frameLength}
+use Rattle.rules.specs.MapRecord.{frameLength}
 use Rattle.rules.specs.EditionTwo.{byteLength, bandsBytes, pairsBytes}
 use Rattle.record_laws.specs.Words.{AreBytes}
 use Rattle.record_laws.specs.Read.{read-sound}
