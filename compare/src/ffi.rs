@@ -1,6 +1,6 @@
 //! The C face of Tembuzar, as `include/tembuzar.h` declares it. Two and three axes share each struct: an array of N
 //! numbers lies in memory, and crosses in a call, as the header's fields x, y (and z) do. `face.rs` makes the calls
-//! safe, and `records.rs` those of map records; nothing else in this program calls C.
+//! safe, and `record_calls.rs` those of map records; nothing else in this program calls C.
 
 use std::ffi::c_double;
 
@@ -196,6 +196,15 @@ pub struct CountAnswer {
     pub count: u64,
 }
 
+/// Of a record moved back to edition 1.
+#[repr(C)]
+#[derive(Clone, Copy, Debug)]
+pub struct MoveAnswer {
+    pub refusal: Refusal,
+    pub count: u64,
+    pub cuts: Cuts,
+}
+
 #[repr(C)]
 #[derive(Clone, Copy, Debug)]
 pub struct OddsAnswer {
@@ -213,6 +222,15 @@ pub struct HeadAnswer<H> {
 }
 
 pub type MapAnswer<const N: usize> = HeadAnswer<Map<N>>;
+
+/// A head from a record of edition 2.
+#[repr(C)]
+#[derive(Clone, Copy, Debug)]
+pub struct LoadAnswer<H> {
+    pub refusal: Refusal,
+    pub map: H,
+    pub running: bool,
+}
 
 #[repr(C)]
 #[derive(Clone, Copy, Debug)]
@@ -259,6 +277,9 @@ mod tests {
         assert_eq!((size_of::<Line<2>>(), size_of::<Line<3>>()), (104, 144));
         assert_eq!((size_of::<MarkAnswer>(), size_of::<CountAnswer>(), size_of::<OddsAnswer>()), (64, 64, 72));
         assert_eq!((size_of::<MapAnswer<2>>(), size_of::<HeadAnswer<Map3>>()), (104, 160));
+        assert_eq!((size_of::<LoadAnswer<Map<2>>>(), size_of::<LoadAnswer<Map3>>()), (112, 168));
+        assert_eq!((offset_of!(LoadAnswer<Map<2>>, running), offset_of!(LoadAnswer<Map3>, running)), (104, 160));
+        assert_eq!((size_of::<MoveAnswer>(), offset_of!(MoveAnswer, cuts)), (80, 64));
         assert_eq!((size_of::<CellAnswer<2>>(), size_of::<CellAnswer<3>>()), (72, 80));
         assert_eq!((size_of::<SampleAnswer<2>>(), size_of::<SampleAnswer<3>>()), (88, 96));
         assert_eq!((size_of::<LineAnswer<2>>(), size_of::<LineAnswer<3>>()), (160, 200));

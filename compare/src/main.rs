@@ -11,6 +11,7 @@ mod face;
 mod ffi;
 mod many;
 mod pair;
+mod record_calls;
 mod records;
 mod round;
 mod tally;

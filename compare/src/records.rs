@@ -1,105 +1,188 @@
-//! Times writing and reading a map record, beside copying as many bytes. The original has no records, so there is
-//! nothing to compare with but memory.
+//! Times writing and reading a map record in both editions, and the moves between them, each beside copying as many
+//! bytes. The original has no records, so there is nothing to compare with but memory.
 
 use std::hint::black_box;
 use std::time::Instant;
 
 use oracle::generate::Rng;
 
-use crate::ffi::{CountAnswer, Cuts, Extents, HeadAnswer, Map, Map3, MapAnswer, Model};
+use crate::ffi::{Extents, Map, Model};
+use crate::record_calls::Recorded;
 
-unsafe extern "C" {
-    fn tembuzar_write_record2(map: Map<2>, odds: *const f64, cells: usize, out: *mut u8, bytes: usize) -> CountAnswer;
-    fn tembuzar_write_record3(map: Map3, odds: *const f64, cells: usize, out: *mut u8, bytes: usize) -> CountAnswer;
-    fn tembuzar_read_record2(
-        bytes: *const u8,
-        count: usize,
-        odds: *mut f64,
-        cells: usize,
-        stamps: *mut u32,
-        stamps_count: usize,
-    ) -> MapAnswer<2>;
-    fn tembuzar_read_record3(
-        bytes: *const u8,
-        count: usize,
-        cuts: Cuts,
-        odds: *mut f64,
-        cells: usize,
-        stamps: *mut u32,
-        stamps_count: usize,
-    ) -> HeadAnswer<Map3>;
+const FRAME: u32 = 7;
+
+/// A call takes so many turns in a row that about this many bytes pass: what fits a cache is timed while it is in one.
+const BYTES_IN_A_ROW: usize = 4_000_000;
+
+#[derive(Clone, Copy)]
+enum Call {
+    Write,
+    Read,
+    WriteClosed,
+    ReadClosed,
+    WriteOpen,
+    ReadOpen,
+    Upgrade,
+    Downgrade,
 }
 
-/// The record's bytes; 0 where the map was refused.
-trait Recorded: Copy {
-    fn write(self, odds: &[f64], out: &mut [u8]) -> u64;
-    fn read(bytes: &[u8], odds: &mut [f64], stamps: &mut [u32]) -> bool;
+const CALLS: [(Call, &str); 8] = [
+    (Call::Write, "edition 1, written"),
+    (Call::Read, "edition 1, read"),
+    (Call::WriteClosed, "edition 2, closed, written"),
+    (Call::ReadClosed, "edition 2, closed, read"),
+    (Call::WriteOpen, "edition 2, open, written"),
+    (Call::ReadOpen, "edition 2, open, read"),
+    (Call::Upgrade, "moved from edition 1 to 2"),
+    (Call::Downgrade, "moved from edition 2 to 1"),
+];
+
+/// Where a map's records stand in its list of them: edition 1, and edition 2 closed and open.
+const FIRST: usize = 0;
+const CLOSED: usize = 1;
+const OPEN: usize = 2;
+
+impl Call {
+    /// The record that the call writes or reads.
+    fn record(self) -> usize {
+        match self {
+            Call::Write | Call::Read | Call::Downgrade => FIRST,
+            Call::WriteClosed | Call::ReadClosed | Call::Upgrade => CLOSED,
+            Call::WriteOpen | Call::ReadOpen => OPEN,
+        }
+    }
 }
 
-macro_rules! recorded {
-    ($n:literal, $write:ident, $read:ident $(, $cuts:expr)?) => {
-        impl Recorded for Map<$n> {
-            fn write(self, odds: &[f64], out: &mut [u8]) -> u64 {
-                // SAFETY: each list is handed over with its own length, and none overlaps another.
-                unsafe { $write(self.cross(), odds.as_ptr(), odds.len(), out.as_mut_ptr(), out.len()).count }
-            }
+/// The sizes of a map's records: what stands before its rows, the rows, with their stamps where it is open, the end.
+fn sizes<M: Recorded>(width: usize, rows: usize) -> [usize; 3] {
+    let [first, second] = M::BEFORE_ROWS;
+    let (odds, stamps) = (rows * (3 + 8 * width), rows * (3 + 4 * width));
+    [first + odds + 3, second + odds + 3, second + odds + stamps + 3]
+}
 
-            fn read(bytes: &[u8], odds: &mut [f64], stamps: &mut [u32]) -> bool {
-                // SAFETY: as above.
-                let answer = unsafe {
-                    $read(bytes.as_ptr(), bytes.len(), $($cuts,)? odds.as_mut_ptr(), odds.len(), stamps.as_mut_ptr(), stamps.len())
-                };
-                answer.refusal.number == 0
+/// A map, its records, and the lists that calls write into.
+struct Lists<M> {
+    map: M,
+    odds: Vec<f64>,
+    stamps: Vec<u32>,
+    records: [Vec<u8>; 3],
+    out: Vec<u8>,
+    odds_back: Vec<f64>,
+    stamps_back: Vec<u32>,
+    copy: Vec<u8>,
+}
+
+impl<M: Recorded> Lists<M> {
+    fn new(map: M, width: usize, rows: usize) -> Lists<M> {
+        let (cells, mut rng) = (width * rows, Rng(3));
+        let odds: Vec<f64> = (0..cells).map(|_| rng.between(-4.0, 4.0)).collect();
+        let stamps: Vec<u32> = (0..cells).map(|_| rng.below(2 * FRAME as usize + 2) as u32).collect();
+        let mut out = vec![0u8; 16 * cells + 1000];
+        let size = map.write(&odds, &mut out);
+        let first = out[..size].to_vec();
+        let size = map.write_edition2(false, &odds, &stamps, &mut out);
+        let closed = out[..size].to_vec();
+        let size = map.write_edition2(true, &odds, &stamps, &mut out);
+        let records = [first, closed, out[..size].to_vec()];
+        assert_eq!(records.each_ref().map(Vec::len), sizes::<M>(width, rows), "other sizes than the layout's");
+        let (odds_back, stamps_back, copy) = (vec![0.0; cells], vec![1; cells], vec![0; size]);
+        Lists { map, odds, stamps, records, out, odds_back, stamps_back, copy }
+    }
+
+    fn called(&mut self, call: Call) {
+        let Lists { map, odds, stamps, records, out, odds_back, stamps_back, .. } = black_box(self);
+        let written = match call {
+            Call::Write => map.write(odds, out),
+            Call::WriteClosed => map.write_edition2(false, odds, stamps, out),
+            Call::WriteOpen => map.write_edition2(true, odds, stamps, out),
+            Call::Upgrade => map.upgrade(&records[FIRST], out),
+            Call::Downgrade => map.downgrade(&records[CLOSED], out),
+            Call::Read => return map.read(&records[FIRST], odds_back, stamps_back),
+            Call::ReadClosed => return map.read_edition2(false, &records[CLOSED], odds_back, stamps_back),
+            Call::ReadOpen => return map.read_edition2(true, &records[OPEN], odds_back, stamps_back),
+        };
+        assert_eq!(written, records[call.record()].len(), "another number of bytes was written");
+    }
+
+    fn copied(&mut self, call: Call) {
+        let Lists { records, copy, .. } = black_box(self);
+        let record = &records[call.record()];
+        copy[..record.len()].copy_from_slice(record);
+    }
+
+    /// Each call leaves what it has to: the record that another call wrote, or the odds and stamps that it was of.
+    fn tried(&mut self) {
+        for (call, name) in CALLS {
+            self.out.fill(9);
+            self.odds_back.fill(9.0);
+            self.stamps_back.fill(9);
+            self.called(call);
+            let same = self.odds.iter().zip(&self.odds_back).all(|(a, b)| a.to_bits() == b.to_bits());
+            let left = match call {
+                Call::Read | Call::ReadClosed => same && self.stamps_back.iter().all(|stamp| *stamp == 0),
+                Call::ReadOpen => same && self.stamps_back == self.stamps,
+                _ => self.out.starts_with(&self.records[call.record()]),
+            };
+            assert!(left, "{name}: not what was to be left");
+        }
+    }
+}
+
+/// The nanoseconds of a turn, by so many in a row.
+fn clocked(turns: usize, mut turn: impl FnMut()) -> f64 {
+    let start = Instant::now();
+    (0..turns).for_each(|_| turn());
+    start.elapsed().as_nanos() as f64 / turns as f64
+}
+
+fn median(times: &mut [f64]) -> f64 {
+    times.sort_by(f64::total_cmp);
+    times[times.len() / 2]
+}
+
+/// The nanoseconds of a call and of copying as many bytes; rounds alternate in which goes first.
+fn both<M: Recorded>(lists: &mut Lists<M>, call: Call, round: usize) -> [f64; 2] {
+    let turns = (BYTES_IN_A_ROW / lists.records[call.record()].len()).max(1);
+    if round.is_multiple_of(2) {
+        let calling = clocked(turns, || lists.called(call));
+        return [calling, clocked(turns, || lists.copied(call))];
+    }
+    let copying = clocked(turns, || lists.copied(call));
+    [clocked(turns, || lists.called(call)), copying]
+}
+
+/// In each round every call has its turn, so that all see the same machine; the first round is not counted.
+fn timed<M: Recorded>(name: &str, map: M, width: usize, rows: usize) {
+    let mut lists = Lists::new(map, width, rows);
+    lists.tried();
+    let rounds = (400_000_000 / lists.records[OPEN].len()).clamp(11, 51);
+    let mut times = vec![[Vec::new(), Vec::new()]; CALLS.len()];
+    for round in 0..=rounds {
+        for ((call, _), [calling, copying]) in CALLS.iter().zip(&mut times) {
+            let [call_time, copy_time] = both(&mut lists, *call, round);
+            if round > 0 {
+                calling.push(call_time);
+                copying.push(copy_time);
             }
         }
-    };
-}
-
-recorded!(2, tembuzar_write_record2, tembuzar_read_record2);
-recorded!(3, tembuzar_write_record3, tembuzar_read_record3, Cuts { first: 1, second: 2 });
-
-/// The median of the nanoseconds that a turn takes, the first one aside.
-fn median(rounds: usize, mut turn: impl FnMut()) -> f64 {
-    turn();
-    let mut times: Vec<f64> = (0..rounds)
-        .map(|_| {
-            let start = Instant::now();
-            turn();
-            start.elapsed().as_nanos() as f64
-        })
-        .collect();
-    times.sort_by(f64::total_cmp);
-    times[rounds / 2]
-}
-
-fn timed<M: Recorded>(name: &str, map: M, cells: usize) {
-    let mut rng = Rng(3);
-    let odds: Vec<f64> = (0..cells).map(|_| rng.between(-4.0, 4.0)).collect();
-    let mut out = vec![0u8; 9 * cells + 1000];
-    let bytes = map.write(&odds, &mut out) as usize;
-    assert!(bytes > 8 * cells, "the map was refused");
-    let (mut back, mut stamps, mut copy) = (vec![0.0; cells], vec![1u32; cells], vec![0u8; bytes]);
-    let rounds = (100_000_000 / bytes).clamp(11, 2001);
-    let writing = median(rounds, || {
-        black_box(map.write(black_box(&odds), black_box(&mut out)));
-    });
-    let reading = median(rounds, || {
-        assert!(M::read(black_box(&out[..bytes]), black_box(&mut back), black_box(&mut stamps)));
-    });
-    let copying = median(rounds, || black_box(&mut copy).copy_from_slice(black_box(&out[..bytes])));
-    assert!(odds.iter().zip(&back).all(|(a, b)| a.to_bits() == b.to_bits()), "what was read is not what was written");
-    let rate = |nanoseconds: f64| bytes as f64 * 1000.0 / nanoseconds;
-    println!("{name:<18} {bytes:>12} {:>10.0} {:>10.0} {:>10.0}", rate(writing), rate(reading), rate(copying));
+    }
+    println!("{name}, {rounds} rounds");
+    for ((call, words), [calling, copying]) in CALLS.iter().zip(&mut times) {
+        let (bytes, calling, copying) = (lists.records[call.record()].len(), median(calling), median(copying));
+        let rate = |nanoseconds: f64| bytes as f64 / nanoseconds;
+        let share = copying / calling;
+        println!("  {words:<28} {bytes:>12} {:>8.2} {:>8.2} {share:>8.2}", rate(calling), rate(copying));
+    }
 }
 
 pub fn all() {
-    println!("megabytes (1,000,000 bytes) a second, median");
-    println!("{:<18} {:>12} {:>10} {:>10} {:>10}", "", "bytes", "writing", "reading", "memcpy");
+    println!("gigabytes (1,000,000,000 bytes) a second, median; the share is that of memcpy's");
+    println!("  {:<28} {:>12} {:>8} {:>8} {:>8}", "", "bytes", "call", "memcpy", "share");
     let model = Model { occupied: 0.75, free: -0.5, ceiling: 4.0 };
-    for side in [64u64, 256, 1024, 4096] {
-        let map = Map { extents: Extents([side, side]), model, frame: 7 };
-        timed(&format!("{side} x {side}"), map, (side * side) as usize);
+    for side in [64, 256, 1024, 4096] {
+        let map = Map { extents: Extents([side as u64; 2]), model, frame: FRAME };
+        timed(&format!("{side} x {side}"), map, side, side);
     }
-    let map = Map { extents: Extents([128, 128, 64]), model, frame: 7 };
-    timed("128 x 128 x 64", map, 128 * 128 * 64);
+    let map = Map { extents: Extents([128, 128, 64]), model, frame: FRAME };
+    timed("128 x 128 x 64", map, 128, 128 * 64);
 }
