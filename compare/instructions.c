@@ -1,5 +1,6 @@
-/* A plugin for qemu's user emulation that counts the instructions a program executes, and prints their number when it ends. It needs no header of qemu's:
- * what it uses of the plugin interface, version 1, is declared here. docs/PERFORMANCE.md says how it is built and used. */
+/* A plugin for qemu's user emulation that counts the instructions a program executes, and prints their number when
+ * it ends. It needs no header of qemu's: what it uses of the plugin interface, version 1, is declared here.
+ * docs/PERFORMANCE.md says how it is built and used. */
 #include <stdint.h>
 #include <stdio.h>
 

@@ -1,5 +1,5 @@
--- Nothing is lost on the way to C: from the struct that C sees, the entry's answer can be read back. Each has a way back, by the refusal's
--- number, and one law does the rest. Assumes nothing.
+-- Nothing is lost on the way to C: from the struct that C sees, the entry's answer can be read back. Each has a way
+-- back, by the refusal's number, and one law does the rest. Assumes nothing.
 use Prim.Native.Nat.{ℕ}
 use mathlib.Core.Path.{_≡_, refl}
 use mathlib.Core.Bool.{cond}

@@ -1,4 +1,5 @@
--- The rows and the end of a record of edition 2: their refusal, and what they hold where there is none. Assumes nothing.
+-- The rows and the end of a record of edition 2: their refusal, and what they hold where there is none. Assumes
+-- nothing.
 use Prim.Native.Nat.{ℕ, zero, suc, _+_, _*_, _≤_}
 use mathlib.Core.Bool.{Bool, true, false, cond}
 use mathlib.Core.List.{List, [], _++_}

@@ -1,4 +1,5 @@
--- Reading a sound record of edition 2 by the width and the number of its rows. Over any number of axes. Assumes nothing.
+-- Reading a sound record of edition 2 by the width and the number of its rows. Over any number of axes. Assumes
+-- nothing.
 use Prim.Native.Nat.{ℕ, _+_, _*_, _≤_}
 use mathlib.Core.Bool.{Bool, true, false, cond}
 use mathlib.Core.List.{List, []}

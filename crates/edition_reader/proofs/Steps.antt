@@ -1,5 +1,5 @@
--- Trying a record of edition 2 field by field, as the code goes: each is sound and the next one is tried, or it is where
--- the record is broken. Assumes nothing.
+-- Trying a record of edition 2 field by field, as the code goes: each is sound and the next one is tried, or it is
+-- where the record is broken. Assumes nothing.
 use Prim.Native.Nat.{ℕ, zero, suc, _+_, _*_, _≤_}
 use mathlib.Core.Bool.{Bool, true, false, _&&_}
 use mathlib.Core.List.{List}

@@ -1,5 +1,5 @@
--- What writing edition 2 of a record answers by the rows' width and number, and the fields after the bands'. Definitions
--- only.
+-- What writing edition 2 of a record answers by the rows' width and number, and the fields after the bands'.
+-- Definitions only.
 use Prim.Native.Nat.{ℕ, _+_, _*_, _≤_}
 use mathlib.Core.Bool.{Bool, true, cond}
 use mathlib.Core.List.{List, [], _∷_, _++_}

@@ -1,4 +1,5 @@
--- A map's head, and the answers that hold one, are fixed by what they stand for. Each map has a way back. Assumes nothing.
+-- A map's head, and the answers that hold one, are fixed by what they stand for. Each map has a way back. Assumes
+-- nothing.
 use mathlib.Core.Path.{_≡_, refl, ap}
 use Rattle.rules.specs.TheGridAndItsBounds.{Head}
 use Rattle.types.proofs.Injective.{Injective, of-back, extents2-back, extents3-back, model-back, bands-back}

@@ -18,7 +18,8 @@ use borrow.Author.Tests.{eq-eqb, ne-eqb}
 use Rattle.laws.specs.Floats.Tests.{bool-ext, order}
 
 -- ---- magnitudes
--- that of an exponent's field and the digits below the leading one, whose weight is h: a field of 0 has no leading digit
+-- that of an exponent's field and the digits below the leading one, whose weight is h: a field of 0 has no leading
+-- digit
 abbrev pub fieldsMagnitude : ℕ → ℕ → ℕ → ℕ
 fieldsMagnitude h zero t = t * 2 ^ 0
 fieldsMagnitude h (suc x) t = (h + t) * 2 ^ x

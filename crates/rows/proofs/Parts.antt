@@ -1,5 +1,5 @@
--- A part of a record that is read as a field is, handed what follows it: what breaks it, what it has, and how many bytes.
--- So many of one kind, one after another, are such a part. Assumes nothing.
+-- A part of a record that is read as a field is, handed what follows it: what breaks it, what it has, and how many
+-- bytes. So many of one kind, one after another, are such a part. Assumes nothing.
 use Prim.Native.Nat.{ℕ, zero, suc, _+_, _*_, _≤_}
 use mathlib.Core.List.{List, [], _∷_}
 use mathlib.Core.Option.{Option, some, none}

@@ -1,6 +1,6 @@
--- Change request 7, "Edition 2 of the map record": its fields, the bytes of a map, and what a list of bytes means. It is
--- another arrangement of the fields of `MapRecord`, with four of its own. What reading, writing and the moves between
--- the editions answer is in `RefusalNumbers.Editions`. Definitions only.
+-- Change request 7, "Edition 2 of the map record": its fields, the bytes of a map, and what a list of bytes means. It
+-- is another arrangement of the fields of `MapRecord`, with four of its own. What reading, writing and the moves
+-- between the editions answer is in `RefusalNumbers.Editions`. Definitions only.
 use Prim.Native.Nat.{ℕ, zero, suc, _+_, _*_}
 use mathlib.Core.Bool.{Bool, true, false, cond, _&&_}
 use mathlib.Core.List.{List, [], _∷_, _++_}

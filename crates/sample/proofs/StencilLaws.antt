@@ -1,5 +1,6 @@
 -- Laws of the rules' stencil, over any number of axes: what one axis says of a whole stencil, and that the cell above
--- the stencil's is still on the grid, so that every corner is a real cell. Last, that the maps to the rules have ways back. Assumes nothing.
+-- the stencil's is still on the grid, so that every corner is a real cell. Last, that the maps to the rules have ways
+-- back. Assumes nothing.
 use Prim.Native.Nat.{ℕ, suc, _+_, _-_, _*_, _/_, _^_, _≤_, _<_, min}
 use mathlib.Core.Path.{_≡_, refl}
 use mathlib.Core.Bool.{Bool, true, false, cond, _&&_}

@@ -1,5 +1,5 @@
-// The moves between the editions of the map record, from C, for two and three axes. Each entry is the one of its name in
-// editions; only the answer's form is another.
+// The moves between the editions of the map record, from C, for two and three axes. Each entry is the one of its name
+// in editions; only the answer's form is another.
 ghost use mathlib.Core.List.{[]};
 ghost use Rattle.rules.specs.RefusalNumbers.Editions.{upgradeEntry, downgradeEntry};
 ghost use Rattle.types.specs.Models.{cutsOf};

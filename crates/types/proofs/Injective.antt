@@ -1,5 +1,6 @@
--- Each map to the rules is injective: two values that stand for the same are the same. So a contract that fixes what an answer stands for
--- fixes the answer. Each map has a way back, and one law does the rest. Answers and refusals are in `InjectiveAnswers`. Assumes nothing.
+-- Each map to the rules is injective: two values that stand for the same are the same. So a contract that fixes what an
+-- answer stands for fixes the answer. Each map has a way back, and one law does the rest. Answers and refusals are in
+-- `InjectiveAnswers`. Assumes nothing.
 use Prim.Native.Nat.{ℕ}
 use mathlib.Core.Path.{_≡_, refl, sym, ap, _∙_}
 use mathlib.Core.Bool.{Bool}
