@@ -58,7 +58,7 @@ returns c h = absurd (omega arith)
 
 returns-2 : tie.Need-returns-2
 returns-2 c h =
-    let f = c .before .before in
+    let f = c .before .before .before in
     let x = f .before .before .args .x in
     again binary64 binary32 _ x h (subst (λ (y : Float). Followed binary64 _ y) (f .before .f32-to-f64-with-nan .ensures) (f .followed-cell .ensures) h)
     (subst T (sym (c .if2 .taken)) tt)
