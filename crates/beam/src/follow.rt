@@ -16,7 +16,7 @@ use grid_map::{GridMap2, GridMap3};
 use places::{place_within2, place_within3};
 
 // How far a walk has come: the line that is left, and the marks that changed a cell.
-#[derive(Drop)]
+#[derive(Clone, Copy)]
 pub struct Part2 {
     pub rest: BresenhamLine2,
     pub count: u64,
@@ -54,7 +54,7 @@ pub fn follow2(map: GridMap2, odds: &mut [f64], stamps: &mut [u32], line: Bresen
     Part2 { rest, count }
 }
 
-#[derive(Drop)]
+#[derive(Clone, Copy)]
 pub struct Part3 {
     pub rest: BresenhamLine3,
     pub count: u64,

@@ -10,7 +10,7 @@ use floats::{chosen, count_of};
 
 // Where the line is along an axis, where it ends, and the error that decides when it moves along it.
 #[repr(C)]
-#[derive(Drop)]
+#[derive(Clone, Copy)]
 pub struct Axis {
     pub current: f64,
     pub end: f64,
@@ -20,7 +20,7 @@ pub struct Axis {
 }
 
 // The axis along which the line moves at each step, and how far.
-#[derive(Drop)]
+#[derive(Clone, Copy)]
 pub struct Primary {
     pub axis: u64,
     pub delta: f64,

@@ -1,5 +1,7 @@
 // The line plotter: what a line does along one axis, and the lines of two and three axes that join such axes. What is
 // done with a line's cells is left to the crates above. The original's bresenham.rs.
+#![tactic(auto)]
+
 mod axis;
 mod following;
 mod line;

@@ -17,7 +17,7 @@ use types::{Cell2, Cell3, Point2, Point3, Refusal};
 // The cells of a line that are still to come. It goes from the start to the end, whichever way that is, and always
 // yields at least one cell: where both points fall within one step, that cell is the end's.
 #[repr(C)]
-#[derive(Drop)]
+#[derive(Clone, Copy)]
 pub struct BresenhamLine2 {
     pub x: Axis,
     pub y: Axis,
@@ -27,7 +27,7 @@ pub struct BresenhamLine2 {
 }
 
 #[repr(C)]
-#[derive(Drop)]
+#[derive(Clone, Copy)]
 pub struct BresenhamLine3 {
     pub x: Axis,
     pub y: Axis,
@@ -37,26 +37,26 @@ pub struct BresenhamLine3 {
     pub remaining: u64,
 }
 
-#[derive(Drop)]
+#[derive(Clone, Copy)]
 pub enum Plotted2 {
     Line(BresenhamLine2),
     Refused(Refusal),
 }
 
-#[derive(Drop)]
+#[derive(Clone, Copy)]
 pub enum Plotted3 {
     Line(BresenhamLine3),
     Refused(Refusal),
 }
 
 // A cell and the line after it. A line that is done stays as it is.
-#[derive(Drop)]
+#[derive(Clone, Copy)]
 pub enum Step2 {
     Cell(Cell2, BresenhamLine2),
     Done,
 }
 
-#[derive(Drop)]
+#[derive(Clone, Copy)]
 pub enum Step3 {
     Cell(Cell3, BresenhamLine3),
     Done,

@@ -10,7 +10,7 @@ use types::{
 
 // Whether a mark changed the cell.
 #[repr(C)]
-#[derive(Drop)]
+#[derive(Clone, Copy)]
 pub struct CMarkAnswer {
     pub refusal: CRefusal,
     pub changed: bool,
@@ -18,7 +18,7 @@ pub struct CMarkAnswer {
 
 // How many marks changed a cell, or how many bytes were written.
 #[repr(C)]
-#[derive(Drop)]
+#[derive(Clone, Copy)]
 pub struct CCountAnswer {
     pub refusal: CRefusal,
     pub count: u64,
@@ -26,7 +26,7 @@ pub struct CCountAnswer {
 
 // The station that mailed a sweep, and how many marks changed a cell.
 #[repr(C)]
-#[derive(Drop)]
+#[derive(Clone, Copy)]
 pub struct CSweepAnswer {
     pub refusal: CRefusal,
     pub station: u16,
@@ -35,7 +35,7 @@ pub struct CSweepAnswer {
 
 // How many bytes a record moved back to edition 1 has, and the cuts, which it has not.
 #[repr(C)]
-#[derive(Drop)]
+#[derive(Clone, Copy)]
 pub struct CMoveAnswer {
     pub refusal: CRefusal,
     pub count: u64,
@@ -44,7 +44,7 @@ pub struct CMoveAnswer {
 
 // A cell's odds; none were found off the grid.
 #[repr(C)]
-#[derive(Drop)]
+#[derive(Clone, Copy)]
 pub struct COddsAnswer {
     pub refusal: CRefusal,
     pub found: bool,

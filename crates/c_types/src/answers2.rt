@@ -13,7 +13,7 @@ use types::{
 
 // A map's head.
 #[repr(C)]
-#[derive(Drop)]
+#[derive(Clone, Copy)]
 pub struct CMapAnswer2 {
     pub refusal: CRefusal,
     pub map: GridMap2,
@@ -21,7 +21,7 @@ pub struct CMapAnswer2 {
 
 // A map's head, and whether its sweep is open.
 #[repr(C)]
-#[derive(Drop)]
+#[derive(Clone, Copy)]
 pub struct CLoadAnswer2 {
     pub refusal: CRefusal,
     pub map: GridMap2,
@@ -30,7 +30,7 @@ pub struct CLoadAnswer2 {
 
 // The cell that contains a point.
 #[repr(C)]
-#[derive(Drop)]
+#[derive(Clone, Copy)]
 pub struct CCellAnswer2 {
     pub refusal: CRefusal,
     pub cell: Cell2,
@@ -38,7 +38,7 @@ pub struct CCellAnswer2 {
 
 // An interpolated value and its gradient; none was found off the stencils' domain.
 #[repr(C)]
-#[derive(Drop)]
+#[derive(Clone, Copy)]
 pub struct CSampleAnswer2 {
     pub refusal: CRefusal,
     pub found: bool,

@@ -14,7 +14,7 @@ use types::{
 
 // A map's head.
 #[repr(C)]
-#[derive(Drop)]
+#[derive(Clone, Copy)]
 pub struct CMapAnswer3 {
     pub refusal: CRefusal,
     pub map: GridMap3,
@@ -22,7 +22,7 @@ pub struct CMapAnswer3 {
 
 // A map's head, and whether its sweep is open.
 #[repr(C)]
-#[derive(Drop)]
+#[derive(Clone, Copy)]
 pub struct CLoadAnswer3 {
     pub refusal: CRefusal,
     pub map: GridMap3,
@@ -31,7 +31,7 @@ pub struct CLoadAnswer3 {
 
 // The cell that contains a point.
 #[repr(C)]
-#[derive(Drop)]
+#[derive(Clone, Copy)]
 pub struct CCellAnswer3 {
     pub refusal: CRefusal,
     pub cell: Cell3,
@@ -39,7 +39,7 @@ pub struct CCellAnswer3 {
 
 // An interpolated value and its gradient; none was found off the stencils' domain.
 #[repr(C)]
-#[derive(Drop)]
+#[derive(Clone, Copy)]
 pub struct CSampleAnswer3 {
     pub refusal: CRefusal,
     pub found: bool,

@@ -1,6 +1,8 @@
 // What C sees: a struct of plain numbers for each answer, where the library's own answers are enums that cannot cross,
 // and the conversions. Nothing is decided here. The points, cells, beams, models, heads and lines of the crates below
 // cross as they are.
+#![tactic(auto)]
+
 mod answers;
 mod answers2;
 mod answers3;

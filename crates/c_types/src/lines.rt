@@ -9,14 +9,14 @@ use types::{Cell2, Cell3};
 
 // A line between two points; one of zeros, with no cell to yield, where it was refused.
 #[repr(C)]
-#[derive(Drop)]
+#[derive(Clone, Copy)]
 pub struct CLineAnswer2 {
     pub refusal: CRefusal,
     pub line: BresenhamLine2,
 }
 
 #[repr(C)]
-#[derive(Drop)]
+#[derive(Clone, Copy)]
 pub struct CLineAnswer3 {
     pub refusal: CRefusal,
     pub line: BresenhamLine3,
@@ -24,7 +24,7 @@ pub struct CLineAnswer3 {
 
 // A cell and the line after it; or none, and the line as it was.
 #[repr(C)]
-#[derive(Drop)]
+#[derive(Clone, Copy)]
 pub struct CStep2 {
     pub found: bool,
     pub cell: Cell2,
@@ -32,7 +32,7 @@ pub struct CStep2 {
 }
 
 #[repr(C)]
-#[derive(Drop)]
+#[derive(Clone, Copy)]
 pub struct CStep3 {
     pub found: bool,
     pub cell: Cell3,

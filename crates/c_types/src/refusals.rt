@@ -7,7 +7,7 @@ ghost use Rattle.c_types.specs.Refusals.{plain, on_grid, in_list, at_place, in_r
 use types::Refusal;
 
 #[repr(C)]
-#[derive(Drop)]
+#[derive(Clone, Copy)]
 pub struct CRefusal {
     // 0 where the call was answered.
     pub number: u32,

@@ -1,5 +1,7 @@
 // The checks of a map's head, in the requirements' order: 1 on all axes, 2, then what the entry uses of 3, 4 and 9; by
 // change request 6 with 15 after 3.
+#![tactic(auto)]
+
 ghost use Rattle.std.specs.Prelude.{◌≡◌, not, ◌&&◌};
 ghost use Rattle.rules.specs.RefusalNumbers.Entries.{extents_refusal, head_refusal};
 ghost use Rattle.rules.specs.TheGridAndItsBounds.{fits_capacity, bounded, cuts_in_bounds};
@@ -15,14 +17,14 @@ pub use counts::so_many_each;
 use types::{Bands, Extents2, Extents3, Frame, Model, Refusal};
 
 // A check passes, or is refused.
-#[derive(Drop)]
+#[derive(Clone, Copy)]
 pub enum Check {
     Passed,
     Refused(Refusal),
 }
 
 // What an entry uses of a head beside its extents.
-#[derive(Drop)]
+#[derive(Clone, Copy)]
 pub struct Uses {
     pub model: bool,
     pub odds: bool,

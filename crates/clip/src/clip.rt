@@ -13,13 +13,13 @@ use places::within;
 use types::{Clipped2, Clipped3, Extents2, Extents3, Point2, Point3, Vector2, Vector3};
 
 // The part of a beam within the map, or a miss.
-#[derive(Drop)]
+#[derive(Clone, Copy)]
 pub enum Clip2 {
     Segment(Clipped2),
     Miss,
 }
 
-#[derive(Drop)]
+#[derive(Clone, Copy)]
 pub enum Clip3 {
     Segment(Clipped3),
     Miss,

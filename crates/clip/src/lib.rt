@@ -1,5 +1,7 @@
 // What clipping leaves of a beam: the part of it within the map's box. The original's clip_segment and
 // clamp_to_addressable_cell.
+#![tactic(auto)]
+
 mod clip;
 mod slabs;
 mod tried;

@@ -10,13 +10,13 @@ ghost use Rattle.clip.specs.Spans.{span_of, passage_of};
 use floats::chosen;
 
 // The fractions of a beam between which it lies in the slabs so far.
-#[derive(Drop)]
+#[derive(Clone, Copy)]
 pub struct Span {
     pub entry: f64,
     pub exit: f64,
 }
 
-#[derive(Drop)]
+#[derive(Clone, Copy)]
 pub enum Passage {
     Open(Span),
     Miss,

@@ -19,7 +19,7 @@ use floats::is_finite;
 use types::{Extents2, Extents3, Point2, Point3};
 
 // What became of a beam: a coordinate is not finite, or what clipping left.
-#[derive(Drop)]
+#[derive(Clone, Copy)]
 pub enum Tried2 {
     NotFinite,
     Clip(Clip2),
@@ -70,7 +70,7 @@ pub fn clip_beam2(extents: Extents2, origin: Point2, endpoint: Point2) -> Tried2
     Tried2::NotFinite
 }
 
-#[derive(Drop)]
+#[derive(Clone, Copy)]
 pub enum Tried3 {
     NotFinite,
     Clip(Clip3),

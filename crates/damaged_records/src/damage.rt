@@ -9,7 +9,7 @@ use crate::page::{number, text};
 use fields::u16_at;
 
 // So many of the same answer, since a byte.
-#[derive(Drop)]
+#[derive(Clone, Copy)]
 struct Run {
     since: usize,
     answer: u64,

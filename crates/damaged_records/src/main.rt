@@ -2,6 +2,7 @@
 // changed in turn, read again. The page says what reading answers each time. Before each reading the lent lists hold 9
 // throughout, and where it is refused they still do. `edition_two` does the same with records of edition 2. What it
 // prints is held to the file `stdout`.
+#![tactic(auto)]
 mod answers;
 mod copies;
 mod damage;

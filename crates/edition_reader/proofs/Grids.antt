@@ -74,7 +74,7 @@ module _ (m : Model) (frame w : ℕ) where
         ∙ ap (or_else (field_broken (row_field m w) offset rest))
         ((field_part (stamps_field frame w)).refusal (λ stamps. next (record { odds = contents (row_field m w) rest; stamps = stamps })) (offset + row) (drop row rest)
         ∙ ap (λ (x : Answer B). or_else (field_broken (stamps_field frame w) (offset + row) (drop row rest)) (refusal_in x)) both_behind)
-        ∙ Rattle.rows.proofs.Parts.or_else (field_broken (row_field m w) offset rest) _ (refusal_in behind_both)
+        ∙ Rattle.rows.proofs.Parts.or_else_lem (field_broken (row_field m w) offset rest) _ (refusal_in behind_both)
 
     open_row_on : open_broken offset rest ≡ none → row_then true m frame w next offset rest ≡ behind_both
     open_row_on e =

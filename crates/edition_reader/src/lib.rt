@@ -1,5 +1,7 @@
 // Reading edition 2 of the map record (change request 7): a map's head, whether its sweep is open, its odds and stamps
 // from bytes, into lent lists, for two and three axes.
+#![tactic(auto)]
+
 mod check;
 mod parts;
 mod reading;

@@ -1,5 +1,7 @@
 // Writing edition 2 of the map record (change request 7), for two and three axes: the head's checks, then the odds and,
 // of an open record, the stamps (10), then the room (11), and only then are bytes written to what is lent.
+#![tactic(auto)]
+
 mod arranging;
 mod parts;
 mod record2;

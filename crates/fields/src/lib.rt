@@ -1,6 +1,8 @@
 // The house's fields: numbers, floats and the heads of fields at a place in lent bytes, read and written,
 // little-endian; and the layout of the map record and of the sweep file. What they hold stands in the crates that read
 // and write them.
+#![tactic(auto)]
+
 mod layout;
 mod patterns;
 mod reading;

@@ -2,6 +2,8 @@
 // nearest end of the range beyond it, 0 for a NaN; and the cell that it can be followed from by whole steps. The 64
 // bits are split into sign, exponent and fraction, and the fraction is shifted. Nothing here knows of lines, and of
 // grids only that an axis has at most 4096 cells.
+#![tactic(auto)]
+
 ghost use Rattle.std.specs.Prelude.{◌≡◌, ◌^◌, ◌<◌, if◌then◌else◌};
 ghost use Rattle.std.specs.Float.{binary64};
 ghost use Rattle.std.specs.Float.Ieee.{to_unsigned};

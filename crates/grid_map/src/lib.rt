@@ -1,4 +1,6 @@
 // The map's head, and the entries that need no beam. The original's GridMap.
+#![tactic(auto)]
+
 mod map2;
 mod map3;
 

@@ -24,7 +24,7 @@ use types::{
 };
 
 #[repr(C)]
-#[derive(Drop)]
+#[derive(Clone, Copy)]
 pub struct GridMap2 {
     pub extents: Extents2,
     pub model: Model,
@@ -32,14 +32,14 @@ pub struct GridMap2 {
 }
 
 // `new`, `reset`, `begin_scan`, and reading a record: the map's head, or a refusal.
-#[derive(Drop)]
+#[derive(Clone, Copy)]
 pub enum MapAnswer2 {
     Map(GridMap2),
     Refused(Refusal),
 }
 
 // Reading a record of edition 2: the map's head, and whether its sweep is open.
-#[derive(Drop)]
+#[derive(Clone, Copy)]
 pub enum LoadAnswer2 {
     Record { map: GridMap2, running: bool },
     Refused(Refusal),

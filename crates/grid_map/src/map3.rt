@@ -24,7 +24,7 @@ use types::{
 };
 
 #[repr(C)]
-#[derive(Drop)]
+#[derive(Clone, Copy)]
 pub struct GridMap3 {
     pub extents: Extents3,
     pub bands: Bands,
@@ -32,14 +32,14 @@ pub struct GridMap3 {
 }
 
 // `new`, `reset`, `begin_scan`, and reading a record: the map's head, or a refusal.
-#[derive(Drop)]
+#[derive(Clone, Copy)]
 pub enum MapAnswer3 {
     Map(GridMap3),
     Refused(Refusal),
 }
 
 // Reading a record of edition 2: the map's head, and whether its sweep is open.
-#[derive(Drop)]
+#[derive(Clone, Copy)]
 pub enum LoadAnswer3 {
     Record { map: GridMap3, running: bool },
     Refused(Refusal),

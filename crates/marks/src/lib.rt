@@ -1,5 +1,7 @@
 // One mark on one cell, reading and setting one cell, and frames. The original's mark_free_at, mark_occupied_at,
 // log_odds_at, set_log_odds and begin_scan, for a place that was found and lists that were checked.
+#![tactic(auto)]
+
 mod bands;
 mod cells;
 mod frames;

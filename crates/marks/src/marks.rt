@@ -9,7 +9,7 @@ ghost use Rattle.marks.specs.Marking.{steps_of, cell_of, MarkedAt};
 use types::{Frame, Model, Stamp};
 
 // The steps and the bounds of one cell.
-#[derive(Drop)]
+#[derive(Clone, Copy)]
 pub struct Steps {
     pub occupied: f64,
     pub free: f64,

@@ -12,7 +12,7 @@ use floats::{cell_of, is_finite};
 use types::{Cell2, Cell3, CellAnswer2, CellAnswer3, Extents2, Extents3, Point2, Point3, Refusal};
 
 // One axis alone: the index of the coordinate's cell, or why it has none.
-#[derive(Drop)]
+#[derive(Clone, Copy)]
 pub enum Containing {
     In(i64),
     Refused(Refusal),

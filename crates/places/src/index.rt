@@ -11,14 +11,14 @@ use crate::off::{is_off, off_axes2, off_axes3};
 use types::{Cell2, Cell3, Extents2, Extents3, Refusal};
 
 // One axis alone: its index as a number below the extent, or the refusal that names it.
-#[derive(Drop)]
+#[derive(Clone, Copy)]
 pub enum Along {
     In(u64),
     Refused(Refusal),
 }
 
 // A place in the lent lists, or the refusal that names the first axis that is off.
-#[derive(Drop)]
+#[derive(Clone, Copy)]
 pub enum Place {
     At(usize),
     Refused(Refusal),

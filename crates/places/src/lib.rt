@@ -1,5 +1,7 @@
 // Where a cell stands in the lent lists, and which cell contains a point. The original's translate_to_index and
 // cell_containing.
+#![tactic(auto)]
+
 mod containing;
 mod index;
 mod off;

@@ -1,5 +1,7 @@
 // Reading the map record of the requirements: a map's head and odds from bytes, into lent lists, for two and three
 // axes.
+#![tactic(auto)]
+
 mod check;
 mod parts;
 mod reading;

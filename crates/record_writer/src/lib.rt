@@ -1,5 +1,7 @@
 // Writing the map record of the requirements, for two and three axes: the head's checks, then whether its bands have
 // one pair (10), then the odds (10), then the room (11), and only then are bytes written to what is lent.
+#![tactic(auto)]
+
 mod arranging;
 mod parts;
 mod record2;

@@ -13,7 +13,7 @@ use types::{
 };
 
 // The map after a question, and how far its line agreed.
-#[derive(Drop)]
+#[derive(Clone, Copy)]
 pub struct Asked {
     pub map: Map,
     pub rest: Cursor,

@@ -7,7 +7,7 @@ use crate::maps::{Map, map_line, odds_line, stamps_line};
 use crate::reading::{Cursor, after_word, find, spoiled};
 
 // The current map and how many cells it has, and whether the line that left it so agreed.
-#[derive(Drop)]
+#[derive(Clone, Copy)]
 pub struct State {
     pub map: Map,
     pub cells: usize,

@@ -7,7 +7,7 @@ use types::{Bands, Cell2, Cell3, Cuts, Extents2, Extents3, Frame, Model, Pair, P
 // The most cells that a map of the list may have.
 pub(crate) const MOST: usize = 256;
 
-#[derive(Drop)]
+#[derive(Clone, Copy)]
 pub enum Map {
     Nothing,
     Two(GridMap2),
@@ -15,20 +15,20 @@ pub enum Map {
 }
 
 // A map with the number of its cells, and the line that set it.
-#[derive(Drop)]
+#[derive(Clone, Copy)]
 pub struct NewMap {
     pub map: Map,
     pub cells: usize,
     pub rest: Cursor,
 }
 
-#[derive(Drop)]
+#[derive(Clone, Copy)]
 pub struct ReadPoint {
     pub point: Point3,
     pub rest: Cursor,
 }
 
-#[derive(Drop)]
+#[derive(Clone, Copy)]
 pub struct ReadCell {
     pub cell: Cell3,
     pub rest: Cursor,

@@ -11,7 +11,7 @@ use std::num::{wrapping_add_u64, wrapping_add_usize};
 
 // How far the replay has come: the map, how many lines there were, the first of them that differs (0 for none), where
 // in the room the next line starts, and whether the list has ended.
-#[derive(Drop)]
+#[derive(Clone, Copy)]
 pub struct Progress {
     pub state: State,
     pub lines: u64,
@@ -21,7 +21,7 @@ pub struct Progress {
 }
 
 // Where a line ends, where the one after it starts, and whether the line is whole.
-#[derive(Drop)]
+#[derive(Clone, Copy)]
 pub struct Span {
     pub end: usize,
     pub next: usize,

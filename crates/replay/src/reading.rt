@@ -6,38 +6,38 @@ ghost use Rattle.std.specs.Prelude.{◌≤◌, length};
 use std::num::wrapping_add_usize;
 
 // The place of the next word, and whether every word before it could be read and was as expected.
-#[derive(Drop)]
+#[derive(Clone, Copy)]
 pub struct Cursor {
     pub at: usize,
     pub good: bool,
 }
 
-#[derive(Drop)]
+#[derive(Clone, Copy)]
 pub struct ReadNumber {
     pub value: u64,
     pub rest: Cursor,
 }
 
-#[derive(Drop)]
+#[derive(Clone, Copy)]
 pub struct ReadSigned {
     pub value: i64,
     pub rest: Cursor,
 }
 
-#[derive(Drop)]
+#[derive(Clone, Copy)]
 pub struct ReadSmall {
     pub value: u32,
     pub rest: Cursor,
 }
 
-#[derive(Drop)]
+#[derive(Clone, Copy)]
 pub struct ReadFloat {
     pub value: f64,
     pub rest: Cursor,
 }
 
 // A decimal with one more digit, if a u64 holds it.
-#[derive(Drop)]
+#[derive(Clone, Copy)]
 enum Longer {
     Value(u64),
     TooLarge,

@@ -1,5 +1,7 @@
 // The rows of a map record: a field for every row of odds along axis 0. What stands before and after them is in
 // `record_reader` and `record_writer`.
+#![tactic(auto)]
+
 mod bounds;
 mod reading;
 mod refusal;

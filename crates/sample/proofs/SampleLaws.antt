@@ -53,6 +53,8 @@ pub data Above : List ℕ → List ℕ → Type 0 where
 reach : (s : ℕ) (cs es : List ℕ) → Above cs es → times_strides cs (strides_from s es) + total (strides_from s es) + s ≤ s * cells es
 unfolding times_strides strides_from total cells
 reach s [] [] none_left = omega arith
+reach s [] (e ∷ es) r = elim r [ ]
+reach s (c ∷ cs) [] r = elim r [ ]
 reach s (c ∷ cs) (e ∷ es) (and_above h r) =
     let k : (c + 2) * s ≤ e * s = mul-le-mul_right s (omega arith) in
     let i = reach (s * e) cs es r in

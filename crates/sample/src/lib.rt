@@ -1,4 +1,6 @@
 // The stencil that contains a point, and the sample in it. The original's stencil_containing and sample_log_odds.
+#![tactic(auto)]
+
 mod sample;
 mod stencil;
 

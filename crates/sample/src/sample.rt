@@ -25,20 +25,20 @@ use types::{
 };
 
 // The two cells of a stencil along axis 0: their odds, or their weights, or differences of odds.
-#[derive(Drop)]
+#[derive(Clone, Copy)]
 struct Edge {
     low: f64,
     high: f64,
 }
 
 // The edges on the low and on the high side of the next axis.
-#[derive(Drop)]
+#[derive(Clone, Copy)]
 struct Square {
     low: Edge,
     high: Edge,
 }
 
-#[derive(Drop)]
+#[derive(Clone, Copy)]
 struct Cube {
     low: Square,
     high: Square,

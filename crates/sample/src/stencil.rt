@@ -11,38 +11,38 @@ ghost use Rattle.sample.specs.Stencil.{axis_of, on_axis, stencilled2, stencilled
 use types::{Extents2, Extents3, Point2, Point3};
 
 // The stencil along one axis: its lower cell, and the point's offset from it, which is the weight of the upper one.
-#[derive(Drop)]
+#[derive(Clone, Copy)]
 pub struct StencilAxis {
     pub cell: u64,
     pub offset: f64,
 }
 
-#[derive(Drop)]
+#[derive(Clone, Copy)]
 pub enum OnAxis {
     In(StencilAxis),
     Nothing,
 }
 
-#[derive(Drop)]
+#[derive(Clone, Copy)]
 pub struct Stencil2 {
     pub x: StencilAxis,
     pub y: StencilAxis,
 }
 
-#[derive(Drop)]
+#[derive(Clone, Copy)]
 pub struct Stencil3 {
     pub x: StencilAxis,
     pub y: StencilAxis,
     pub z: StencilAxis,
 }
 
-#[derive(Drop)]
+#[derive(Clone, Copy)]
 pub enum Stencilled2 {
     At(Stencil2),
     Nothing,
 }
 
-#[derive(Drop)]
+#[derive(Clone, Copy)]
 pub enum Stencilled3 {
     At(Stencil3),
     Nothing,

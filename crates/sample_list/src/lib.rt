@@ -1,5 +1,7 @@
 // Many sample points in one call: flat lists of points, of slots for samples, and of marks. A point is sampled as it is
 // alone; here is only how the lists are laid out.
+#![tactic(auto)]
+
 mod entry2;
 mod entry3;
 mod shape;

@@ -3,7 +3,7 @@ use crate::points::{Point2, Point3};
 
 // Why a beam stopped where it did. A bool with a name, since an enum cannot cross to C: a beam is C's own.
 #[repr(C)]
-#[derive(Drop)]
+#[derive(Clone, Copy)]
 pub struct RayTermination(pub bool);
 
 impl RayTermination {
@@ -15,7 +15,7 @@ impl RayTermination {
 
 // One range measurement: where the beam started, where it stopped, and why.
 #[repr(C)]
-#[derive(Drop)]
+#[derive(Clone, Copy)]
 pub struct ScanBeam2 {
     pub origin: Point2,
     pub endpoint: Point2,
@@ -23,7 +23,7 @@ pub struct ScanBeam2 {
 }
 
 #[repr(C)]
-#[derive(Drop)]
+#[derive(Clone, Copy)]
 pub struct ScanBeam3 {
     pub origin: Point3,
     pub endpoint: Point3,
@@ -33,7 +33,7 @@ pub struct ScanBeam3 {
 // A measurement of an instrument that looks straight up and sends whole numbers: the column, the height of the cell it
 // starts in, and that of the cell it stopped in. A top height of the map's own extent says that the beam ran out.
 #[repr(C)]
-#[derive(Drop)]
+#[derive(Clone, Copy)]
 pub struct VerticalBeam {
     pub x: u64,
     pub y: u64,
@@ -43,14 +43,14 @@ pub struct VerticalBeam {
 }
 
 // A segment clipped to the map, both ends clamped to cells of it, and whether its computed end lay inside.
-#[derive(Drop)]
+#[derive(Clone, Copy)]
 pub struct Clipped2 {
     pub entry: Point2,
     pub exit: Point2,
     pub inside: bool,
 }
 
-#[derive(Drop)]
+#[derive(Clone, Copy)]
 pub struct Clipped3 {
     pub entry: Point3,
     pub exit: Point3,

@@ -4,11 +4,11 @@ ghost use Rattle.rules.specs.MarksAndFrames.{stamp_of, highest_frame};
 
 // The number of a sweep. Any number may be handed over; what a sweep cannot have is refused with 9.
 #[repr(C)]
-#[derive(Drop)]
+#[derive(Clone, Copy)]
 pub struct Frame(pub u32);
 
 // What a cell bears: the frame of its last mark, and whether that mark was an occupied one.
-#[derive(Drop)]
+#[derive(Clone, Copy)]
 pub struct Stamp(u32);
 
 impl Frame {

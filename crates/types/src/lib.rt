@@ -2,6 +2,8 @@
 // by value and nothing else; what is done with them stands in the crates above, and the map's head with its own
 // functions in grid_map. The original's types.rs. A struct marked `#[repr(C)]` crosses to C as it stands:
 // `include/tembuzar.h` has the same fields in the same order.
+#![tactic(auto)]
+
 mod answers;
 mod beams;
 mod frames;

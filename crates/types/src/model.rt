@@ -6,7 +6,7 @@ ghost use Rattle.rules.specs.TheGridAndItsBounds.{plain_model};
 ghost use Rattle.types.specs.Models.{pair_of, model_of};
 
 #[repr(C)]
-#[derive(Drop)]
+#[derive(Clone, Copy)]
 pub struct Model {
     pub occupied: f64,
     pub free: f64,
@@ -15,7 +15,7 @@ pub struct Model {
 
 // The steps of one band.
 #[repr(C)]
-#[derive(Drop)]
+#[derive(Clone, Copy)]
 pub struct Pair {
     pub occupied: f64,
     pub free: f64,
@@ -23,14 +23,14 @@ pub struct Pair {
 
 // The heights at which the middle and the high band begin.
 #[repr(C)]
-#[derive(Drop)]
+#[derive(Clone, Copy)]
 pub struct Cuts {
     pub first: u64,
     pub second: u64,
 }
 
 #[repr(C)]
-#[derive(Drop)]
+#[derive(Clone, Copy)]
 pub struct Bands {
     pub low: Pair,
     pub middle: Pair,

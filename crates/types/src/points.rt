@@ -3,14 +3,14 @@
 
 // A position; 1.0 is one cell.
 #[repr(C)]
-#[derive(Drop)]
+#[derive(Clone, Copy)]
 pub struct Point2 {
     pub x: f64,
     pub y: f64,
 }
 
 #[repr(C)]
-#[derive(Drop)]
+#[derive(Clone, Copy)]
 pub struct Point3 {
     pub x: f64,
     pub y: f64,
@@ -19,14 +19,14 @@ pub struct Point3 {
 
 // A direction, or a gradient in value per cell.
 #[repr(C)]
-#[derive(Drop)]
+#[derive(Clone, Copy)]
 pub struct Vector2 {
     pub x: f64,
     pub y: f64,
 }
 
 #[repr(C)]
-#[derive(Drop)]
+#[derive(Clone, Copy)]
 pub struct Vector3 {
     pub x: f64,
     pub y: f64,
@@ -35,14 +35,14 @@ pub struct Vector3 {
 
 // A cell's indices, which may be negative or out of range.
 #[repr(C)]
-#[derive(Drop)]
+#[derive(Clone, Copy)]
 pub struct Cell2 {
     pub x: i64,
     pub y: i64,
 }
 
 #[repr(C)]
-#[derive(Drop)]
+#[derive(Clone, Copy)]
 pub struct Cell3 {
     pub x: i64,
     pub y: i64,
@@ -51,14 +51,14 @@ pub struct Cell3 {
 
 // The number of cells along each axis.
 #[repr(C)]
-#[derive(Drop)]
+#[derive(Clone, Copy)]
 pub struct Extents2 {
     pub x: u64,
     pub y: u64,
 }
 
 #[repr(C)]
-#[derive(Drop)]
+#[derive(Clone, Copy)]
 pub struct Extents3 {
     pub x: u64,
     pub y: u64,

@@ -3,6 +3,7 @@
 -- computation.
 use Rattle.std.specs.Prelude.{ℕ, Bool, true, false, List, [], ◌∷◌, ◌≡◌, refl, pos, negsuc, Float}
 use Rattle.std.specs.Float.{fin, binary32, binary64}
+use Rattle.std.proofs.Common.{◌∙◌}
 use Rattle.rules.specs.RefusalNumbers.{given}
 use Rattle.rules.specs.TheGridAndItsBounds.{Pair, Model, plain_model, bounded}
 use Rattle.rules.specs.TheLine.{threshold_of}
@@ -52,6 +53,8 @@ pub record BoundsAnswers : Type 0 where
 pub bounds_answers : BoundsAnswers
 unfolding opened
 bounds_answers =
+    let narrow : threshold_of binary32 3 ≡ fin false 3 (negsuc 1) = refl in
+    let wide : fin false 3 (negsuc 1) ≡ plus 3 4 = refl in
     record {
       largest_stands = refl;
       occupied_above = refl;
@@ -66,7 +69,7 @@ bounds_answers =
       high_free_above = refl;
       bands_ceiling_above = refl;
       threshold_of_three = refl;
-      threshold_of_three_single = refl;
+      threshold_of_three_single = narrow ∙ wide;
       opens-after-none = refl;
       opens_above_the_highest = refl;
       opens-above-all = refl;

@@ -1,0 +1,10 @@
+-- An answer, and a refusal.
+use lib.Ieee.{of_bits}
+use Rattle.c_types.proofs.answers2.load2_to_c.Goals as goal
+
+pub returns-in-Record : goal.returns-in-Record
+returns-in-Record c = simp (c.bare.ensures, c.in-Record.is)
+
+pub returns-in-Refused : goal.returns-in-Refused
+unfolding of_bits
+returns-in-Refused c = simp (c.refusal_to_c.ensures, c.in-Refused.is)

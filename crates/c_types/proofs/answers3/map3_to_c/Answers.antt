@@ -1,0 +1,10 @@
+-- An answer, and a refusal.
+use lib.Ieee.{of_bits}
+use Rattle.c_types.proofs.answers3.map3_to_c.Goals as goal
+
+pub returns-in-Map : goal.returns-in-Map
+returns-in-Map c = simp (c.bare.ensures, c.in-Map.is)
+
+pub returns-in-Refused : goal.returns-in-Refused
+unfolding of_bits
+returns-in-Refused c = simp (c.refusal_to_c.ensures, c.in-Refused.is)

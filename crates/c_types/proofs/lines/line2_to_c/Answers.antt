@@ -1,0 +1,10 @@
+-- An answer, and a refusal.
+use lib.Ieee.{of_bits}
+use Rattle.c_types.proofs.lines.line2_to_c.Goals as goal
+
+pub returns-in-Line : goal.returns-in-Line
+returns-in-Line c = simp (c.bare.ensures, c.in-Line.is)
+
+pub returns-in-Refused : goal.returns-in-Refused
+unfolding of_bits
+returns-in-Refused c = simp (c.refusal_to_c.ensures, c.in-Refused.is)

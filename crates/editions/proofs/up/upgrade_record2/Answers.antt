@@ -1,0 +1,16 @@
+-- The whole record is tried first.
+use mathlib.Core.Path.{refl, sym, ap, ◌∙◌}
+use Rattle.rules.specs.MapRecord.{record_of}
+use Rattle.rules.specs.RefusalNumbers.Editions.{upgrade_entry}
+use Rattle.checks.specs.Checking.{check_of}
+use Rattle.rows.proofs.Answers.{refused_as}
+use Rattle.editions.proofs.up.upgrade_record2.Goals as goal
+
+pub upgrade_sound2-requires : goal.upgrade_sound2-requires
+upgrade_sound2-requires c = sym c.record_check2.ensures ∙ ap check_of c.in-Passed.is
+
+pub returns-in-Refused : goal.returns-in-Refused
+unfolding upgrade_entry
+returns-in-Refused c = let b = c.args.bytes.now in
+    let known = sym c.record_check2.ensures ∙ ap check_of c.in-Refused.is in
+    rw (refused_as (record_of 2 b) _ known) refl

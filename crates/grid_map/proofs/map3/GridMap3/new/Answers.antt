@@ -1,0 +1,17 @@
+-- A refused check leaves the lists; a passed one has them cleared, one number per cell.
+use mathlib.Core.Path.{sym, ap, ◌∙◌}
+use Rattle.rules.specs.RefusalNumbers.Entries.{new_entry}
+use Rattle.laws.specs.Checks.{passed}
+use Rattle.checks.specs.Checking.{check_of}
+use Rattle.grid_map.proofs.Fresh.{cleared}
+use Rattle.grid_map.proofs.map3.GridMap3.new.Goals as goal
+
+pub returns-in-Refused : goal.returns-in-Refused
+unfolding new_entry
+returns-in-Refused c = simp (sym c.head_check3.ensures ∙ ap check_of c.in-Refused.is)
+
+pub returns-in-Passed : goal.returns-in-Passed
+unfolding new_entry
+returns-in-Passed c = let fine = sym c.head_check3.ensures ∙ ap check_of c.in-Passed.is in
+    let known = passed _ _ _ _ fine in
+    rw fine (cleared _ _ c.args.odds.now _ c.args.stamps.now _ c.clear_odds.ensures c.clear_stamps.ensures (known.odds_count tt) (known.stamps_count tt))

@@ -1,0 +1,16 @@
+-- The whole record is tried first.
+use mathlib.Core.Path.{refl, sym, ap, ◌∙◌}
+use Rattle.rules.specs.MapRecord.{record_of}
+use Rattle.rules.specs.RefusalNumbers.Entries.{read_record_entry}
+use Rattle.checks.specs.Checking.{check_of}
+use Rattle.rows.proofs.Answers.{refused_as}
+use Rattle.record_reader.proofs.reading.read_record3.Goals as goal
+
+pub read_sound3-requires : goal.read_sound3-requires
+read_sound3-requires c = sym c.record_check3.ensures ∙ ap check_of c.in-Passed.is
+
+pub returns-in-Refused : goal.returns-in-Refused
+unfolding read_record_entry
+returns-in-Refused c = let b = c.args.bytes.now in
+    let known = sym c.record_check3.ensures ∙ ap check_of c.in-Refused.is in
+    rw (refused_as (record_of 3 b) _ known) refl
