@@ -1,13 +1,4 @@
--- What the walks of this crate share.
-pub mod Again
-pub mod Contracts
+-- What the proofs of this crate share.
 pub mod Entering
-pub mod GiveUp
-pub mod Handed
-pub mod HeadWalk
 pub mod InSlice
 pub mod Opening
-pub mod Pieces
-pub mod RawPart
-pub mod SliceWalk
-pub mod UpdateWalk

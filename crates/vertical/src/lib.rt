@@ -2,6 +2,7 @@
 // the entry. No coordinate here is a float: what a mark does to odds stands in the crates below, and that the general
 // beam does the same is a law.
 #![tactic(auto)]
+
 mod column;
 mod entry;
 mod profile;
