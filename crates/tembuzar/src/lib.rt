@@ -2,6 +2,7 @@
 // `include/tembuzar.h` declares them and says what a caller owes: lists that are there, as long as said, a lent head
 // that is there, and that do not overlap. Everything else is answered.
 #![tactic(auto)]
+
 mod edition2;
 mod lent2;
 mod lent3;

@@ -1,6 +1,7 @@
 // Charts from C: the layer chart of a map, and the season's report of many charts. It is a library of its own and needs
 // nothing of the others.
 #![tactic(auto)]
+
 mod layers;
 mod seasons;
 

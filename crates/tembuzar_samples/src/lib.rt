@@ -2,6 +2,7 @@
 // only the answer's form is another. It is a library of its own: in one with the call for a single point, the code of a
 // sample would stand once for both, behind a call, and each would be slower.
 #![tactic(auto)]
+
 ghost use Rattle.std.specs.Float.{binary64};
 ghost use Rattle.rules.specs.ManySamples.{sample_all_log_odds_entry};
 ghost use Rattle.grid_map.specs.Heads.{head2, head3};
