@@ -35,7 +35,7 @@ def read(path):
 
 def is_walk(path):
     """A proof of one function: what is defined there has the names of goals."""
-    return path.endswith("/Proof.antt")
+    return "/proofs/" in path and path.endswith(("/Proof.antt", "/Answers.antt", "/Invariants.antt"))
 
 
 def is_type(name):
@@ -74,7 +74,7 @@ def of_libraries():
 
 
 def snake(name):
-    return re.sub(r"(?<=[a-z0-9])([A-Z])", lambda m: "_" + m.group(1).lower(), name)
+    return re.sub(r"(?<=[a-z0-9])[A-Z]|(?<=[A-Z])[A-Z](?=[a-z])", lambda m: "_" + m.group(0).lower(), name)
 
 
 def new_name(name, known):

@@ -29,10 +29,10 @@ module _ (f : Format) (m : Model) (k : ℕ) where
       let c : n ≡ cond r.changed 1 0 = e ∙ ap (λ (b : Bool). cond b 1 0) d.answer in
       let low = mark_lowers f (steps_at m at) k occupied (record { odds = get_or odds at lib.Ieee.nan; stamp = get_or stamps at 0 }) in
       let moved = room-set k stamps at r.cell.stamp h in
-      let after : room k stamps' ≡ room k (set stamps at r.cell.stamp) = ap (room k) d.stamps-now in
+      let after : room k stamps' ≡ room k (set stamps at r.cell.stamp) = ap (room k) d.stamps_now in
       record {
         count = omega arith;
-        grid = ap₂ grid_of d.odds-now d.stamps-now;
+        grid = ap₂ grid_of d.odds_now d.stamps_now;
         used = omega arith;
       }
 
@@ -63,4 +63,4 @@ pub mark_answered : (f : Format) (m : Model) (k at : ℕ) (occupied : Bool) (odd
     })
 unfolding mark_at
 mark_answered f m k at occupied odds odds' stamps stamps' changed d =
-    ap₂ (λ (b : Bool) (g : Grid). record { answer = given b; lent = g }) d.answer (ap₂ grid_of d.odds-now d.stamps-now)
+    ap₂ (λ (b : Bool) (g : Grid). record { answer = given b; lent = g }) d.answer (ap₂ grid_of d.odds_now d.stamps_now)

@@ -33,9 +33,9 @@ nothing_added a b c true false z p q r = rw and-false
 nothing_added a b c true true false p q r = rw and-false
 nothing_added a b c true true true p q r = rw (p refl, q refl, r refl)
 
-pub bounded-by-size : (c : Float) (m : Pair) → lt zero_f m.occupied ≡ true → lt m.free zero_f ≡ true → lt zero_f c ≡ true → pair_bounded c m ≡ sizes_bounded c m
+pub bounded_by_size : (c : Float) (m : Pair) → lt zero_f m.occupied ≡ true → lt m.free zero_f ≡ true → lt zero_f c ≡ true → pair_bounded c m ≡ sizes_bounded c m
 unfolding pair_bounded sizes_bounded
-bounded-by-size c m p q r =
+bounded_by_size c m p q r =
     rw (p, q, r)
     (nothing_added (finite m.occupied) (finite m.free) (finite c) (le m.occupied most_size) (le (neg most_size) m.free) (le c most_size)
     (positive_finite m.occupied p) (negative-finite m.free q) (positive_finite c r))

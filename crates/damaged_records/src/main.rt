@@ -3,6 +3,7 @@
 // throughout, and where it is refused they still do. `edition_two` does the same with records of edition 2. What it
 // prints is held to the file `stdout`.
 #![tactic(auto)]
+
 mod answers;
 mod copies;
 mod damage;

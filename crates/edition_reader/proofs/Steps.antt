@@ -112,9 +112,9 @@ module _ (es : List ℕ) (at : ℕ) (bs : List ℕ) where
   abbrev tests : Bool → Bool → Option Refusal
   tests x y = unless_sound at (sound_here model_field rest) (unless_sound (at + size) x (unless_sound (at + size + size) y (cuts_broken 2 es at rest)))
 
-  bands-by : bands_broken 2 es at rest ≡ tests (sound_here (pair_field ceiling) (drop size rest)) (sound_here (pair_field ceiling) (drop size (drop size rest)))
+  bands_by : bands_broken 2 es at rest ≡ tests (sound_here (pair_field ceiling) (drop size rest)) (sound_here (pair_field ceiling) (drop size (drop size rest)))
   unfolding bands_broken rows_broken
-  bands-by =
+  bands_by =
       by_tests (sound_here model_field rest) (sound_here (pair_field ceiling) (drop size rest)) (sound_here (pair_field ceiling) (drop size (drop size rest))) (cuts_broken 2 es at rest)
     where
       by_tests : (x y z : Bool) (last : Option Refusal)
@@ -131,7 +131,7 @@ module _ (es : List ℕ) (at : ℕ) (bs : List ℕ) where
       (unless_sound (at + field_size model_length + field_size model_length) (sound_here (pair_field (contents model_field (drop at bs)).ceiling) (drop (at + field_size model_length + field_size model_length) bs))
       (cuts_broken 2 es at (drop at bs))))
   bands_are =
-      bands-by
+      bands_by
       ∙ ap₂ tests (ap (sound_here (pair_field ceiling)) (drop-drop size at bs))
       (ap (sound_here (pair_field ceiling)) (ap (drop size) (drop-drop size at bs) ∙ drop-drop size (at + size) bs))
 

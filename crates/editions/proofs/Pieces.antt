@@ -18,7 +18,7 @@ use Rattle.rules.specs.MapRecord.{row_length, row_width, row_count, rows_bytes, 
 use Rattle.rules.specs.EditionTwo.{Kept, byte_length, edition_tag, edition_two, open_tag, cuts_for, pairs_bytes, cuts_bytes, bands_bytes, bands_size, row_size, grid_offset, edition_size, edition_bytes, edition_of}
 use Rattle.record_laws.specs.Words.{AreBytes}
 use Rattle.record_laws.specs.Read.{read_again}
-use Rattle.record_laws.specs.EditionTwo.Read.{edition-again}
+use Rattle.record_laws.specs.EditionTwo.Read.{edition_again}
 use Rattle.record_laws.specs.EditionTwo.Written.{bands-length}
 use Rattle.record_writer.proofs.Fields.{length_extents}
 use Rattle.edition_writer.proofs.Rows.{closed_bytes}
@@ -136,7 +136,7 @@ module _ (axes : ℕ) (bytes : List ℕ) (k : Kept) (e : edition_of axes bytes �
 
   whole₂ : bytes ≡ edition ++ (extents_of top ++ pair_of top) ++ middle ++ frame_of top ++ closed_mark ++ rows_of top k.grid.odds
   whole₂ =
-      sym (edition-again axes bytes k e b) ∙ ap (λ (r : Bool). edition_bytes top r k.grid) closed ∙ edition_is top k.grid middle bands_are
+      sym (edition_again axes bytes k e b) ∙ ap (λ (r : Bool). edition_bytes top r k.grid) closed ∙ edition_is top k.grid middle bands_are
 
   abbrev place : ℕ
   place = field_size byte_length + frame_in axes + (bands_size (cuts_for axes) - field_size model_length)

@@ -16,7 +16,7 @@ pub length_run : (n k : ℕ) (bs : List ℕ) → k + n ≤ length bs → length 
 length_run n k bs h = length-take-le n (drop k bs) (let d = length-drop k bs in omega arith)
 
 -- three runs, each where the one before it ends
-pub three-runs : (xs ys zs out out₁ out₂ out₃ : List ℕ) (at at₂ at₃ : ℕ) → out₁ ≡ sets out at xs → out₂ ≡ sets out₁ at₂ ys → out₃ ≡ sets out₂ at₃ zs
+pub three_runs : (xs ys zs out out₁ out₂ out₃ : List ℕ) (at at₂ at₃ : ℕ) → out₁ ≡ sets out at xs → out₂ ≡ sets out₁ at₂ ys → out₃ ≡ sets out₂ at₃ zs
     → at₂ ≡ at + length xs → at₃ ≡ at₂ + length ys → out₃ ≡ sets out at (xs ++ ys ++ zs)
-three-runs xs ys zs out out₁ out₂ out₃ at at₂ at₃ a b c e f =
+three_runs xs ys zs out out₁ out₂ out₃ at at₂ at₃ a b c e f =
     then_run (xs ++ ys) zs out out₂ out₃ at at₃ (then_run xs ys out out₁ out₂ at at₂ a b e) c (let d = length-append xs ys in omega arith)

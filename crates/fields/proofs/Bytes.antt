@@ -32,17 +32,17 @@ from_two at bs =
     rw e (omega (arith, from_step 1 at bs, from_step 0 (suc at) bs))
 
 -- a number of so many bytes, and of so many more after them
-pub from-split : (j k at : ℕ) (bs : List ℕ) → from_little_endian (j + k) (drop at bs) ≡ from_little_endian j (drop at bs) + 256 ^ j * from_little_endian k (drop (at + j) bs)
+pub from_split : (j k at : ℕ) (bs : List ℕ) → from_little_endian (j + k) (drop at bs) ≡ from_little_endian j (drop at bs) + 256 ^ j * from_little_endian k (drop (at + j) bs)
 unfolding from_little_endian
-from-split zero k at bs =
+from_split zero k at bs =
     let a : zero + k ≡ k = omega arith in
     let b : at + zero ≡ at = omega arith in
     rw (a, b, pow-zero 256) (omega arith)
-from-split (suc j) k at bs =
+from_split (suc j) k at bs =
     let a : suc j + k ≡ suc (j + k) = omega arith in
     let b : at + suc j ≡ suc at + j = omega arith in
     let rest = from_little_endian k (drop (suc at + j) bs) in
-    rw (a, b, pow-succ' 256 j, mul_assoc 256 (256 ^ j) rest) (omega (arith, from_step (j + k) at bs, from_step j at bs, from-split j k (suc at) bs))
+    rw (a, b, pow-succ' 256 j, mul_assoc 256 (256 ^ j) rest) (omega (arith, from_step (j + k) at bs, from_step j at bs, from_split j k (suc at) bs))
 
 -- ---- writing
 pub length_little : (k n : ℕ) → length (little_endian k n) ≡ k

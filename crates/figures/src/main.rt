@@ -2,6 +2,7 @@
 // picture of a sweep. What it prints is held to the file `stdout`. What the requirements expect stands before each
 // outcome in brackets. This room holds what all of them print with; each kind of figure has its own.
 #![tactic(auto)]
+
 use floats::count_of;
 use grid_map::{GridMap2, MapAnswer2};
 use libc::STDOUT_FILENO;

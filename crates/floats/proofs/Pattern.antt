@@ -51,9 +51,9 @@ low_sign x h = below_4096 x (omega arith)
 pub low_exponent : (x : Float) → bits_of x / 2 ^ 52 < 1035 → bits_of x / 2 ^ 52 ≡ exponent_of x
 low_exponent x h = omega (arith, and_mask (bits_of x / 2 ^ 52) 11)
 
-by-fields : (x : Float) → fits binary64 x ≡ true → x ≡ of_fields binary64 (sign_of x) (exponent_of x) (fraction_of x)
+by_fields : (x : Float) → fits binary64 x ≡ true → x ≡ of_fields binary64 (sign_of x) (exponent_of x) (fraction_of x)
 unfolding of_bits
-by-fields x h =
+by_fields x h =
     let b = bits_of x in
     sym (of_bits-to_bits binary64 x (subst T (sym h) tt))
     ∙ ap₂ (λ (e t : ℕ). of_fields binary64 (sign_of x) e t) (sym (and_mask (b / 2 ^ 52) 11 ∙ sym (field b 11 52))) (sym (and_mask b 52))
@@ -90,7 +90,7 @@ module _ {A : Type 0} (to : Float → A) (kept : Bool → ℕ → A)
 
   pub by_pattern : (x : Float) (s : Bool) → fits binary64 x ≡ true → ne x x ≡ false → sign_of x ≡ s → to x ≡ kept s (whole_part (exponent_of x) (fraction_of x))
   by_pattern x s h n g =
-      let f = by-fields x h in
+      let f = by_fields x h in
       ap to f ∙ of_fields_lem (sign_of x) (exponent_of x) (fraction_of x) (fraction_lt x) (rw f at (no_nan x n)) ∙ ap (λ (b : Bool). kept b (whole_part (exponent_of x) (fraction_of x))) g
 
 -- ---- no sign

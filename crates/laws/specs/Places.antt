@@ -127,9 +127,9 @@ pub within_products : {a b m n l : ℕ} → a < b → b ≤ m → n ≤ l → a 
 within_products h g k = mul-le-mul (le_trans (le_of_lt h) g) k
 
 -- a place is below the number of cells
-pub place-lt : (es : List ℕ) (is : List ℤ) (place : ℕ) → length is ≡ length es → flat_index es is ≡ given place → place < cells es
+pub place_lt : (es : List ℕ) (is : List ℤ) (place : ℕ) → length is ≡ length es → flat_index es is ≡ given place → place < cells es
 unfolding flat_index strides
-place-lt es is place l q = go (on_grid_from (off_axes es is) 0 es is) refl q
+place_lt es is place l q = go (on_grid_from (off_axes es is) 0 es is) refl q
   where
     go : (r : Answer (List ℕ)) → on_grid_from (off_axes es is) 0 es is ≡ r → and_then r (λ ns. given (times_strides ns (strides_from 1 es))) ≡ given place → place < cells es
     go (given ns) t v =

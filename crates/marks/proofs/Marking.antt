@@ -52,8 +52,8 @@ module _ (f : Format) (s : Steps) (frame at : ℕ) (odds : List Float) (stamps :
     left e =
         record {
           answer = sym (ap (λ (m : Marked). m.changed) e);
-          odds-now = sym (ap (λ (m : Marked). set odds at m.cell.odds) e ∙ set-get_or odds at nan);
-          stamps-now = sym (ap (λ (m : Marked). set stamps at m.cell.stamp) e ∙ set-get_or stamps at 0);
+          odds_now = sym (ap (λ (m : Marked). set odds at m.cell.odds) e ∙ set-get_or odds at nan);
+          stamps_now = sym (ap (λ (m : Marked). set stamps at m.cell.stamp) e ∙ set-get_or stamps at 0);
         }
 
     moved : (o : Float) (t : ℕ) → mark_on f occupied s frame at odds stamps ≡ record { cell = cell_of o t; changed = true }
@@ -61,8 +61,8 @@ module _ (f : Format) (s : Steps) (frame at : ℕ) (odds : List Float) (stamps :
     moved o t e =
         record {
           answer = sym (ap (λ (m : Marked). m.changed) e);
-          odds-now = sym (ap (λ (m : Marked). set odds at m.cell.odds) e);
-          stamps-now = sym (ap (λ (m : Marked). set stamps at m.cell.stamp) e);
+          odds_now = sym (ap (λ (m : Marked). set odds at m.cell.odds) e);
+          stamps_now = sym (ap (λ (m : Marked). set stamps at m.cell.stamp) e);
         }
 
   -- ---- by the test of the stamp: o and t are what the code wrote

@@ -21,5 +21,5 @@ mark_on f occupied s frame at odds stamps = Marks.mark_cell f s frame occupied (
 -- whether the mark changed the cell, and both lists afterwards
 pub record MarkedAt (f : Format) (occupied : Bool) (s : Marks.Steps) (frame at : ℕ) (odds : List Float) (stamps : List ℕ) (r : Bool) (odds' : List Float) (stamps' : List ℕ) : Type 0 where
   pub answer : r ≡ (mark_on f occupied s frame at odds stamps).changed
-  pub odds-now : odds' ≡ set odds at (mark_on f occupied s frame at odds stamps).cell.odds
-  pub stamps-now : stamps' ≡ set stamps at (mark_on f occupied s frame at odds stamps).cell.stamp
+  pub odds_now : odds' ≡ set odds at (mark_on f occupied s frame at odds stamps).cell.odds
+  pub stamps_now : stamps' ≡ set stamps at (mark_on f occupied s frame at odds stamps).cell.stamp

@@ -114,5 +114,5 @@ record_back h odds o axes passes checked held =
     ∙ field_back frame_field _ (little_endian word_size h.frame) _ h.frame _ (little_endian_length word_size h.frame) (omega arith)
     (little_endian_back word_size h.frame _ (omega arith)) t.frame
     ∙ rows_back k (row_width es) (row_count es) _ o odds (field end_tag []) _ (rows_by_ceiling k m refl (row_width es) (row_count es) o odds ∙ checked)
-    (t.count ∙ rows_are_cells es axes) held.each-odds (row_narrow es b.0)
+    (t.count ∙ rows_are_cells es axes) held.each_odds (row_narrow es b.0)
     ∙ end_back (record { head = plain_head h; odds = odds }) _)

@@ -15,10 +15,10 @@ module _ {A : Type 0} (P : A → Type 0) (d : A) where
   each_cons x xs p h zero l = p
   each_cons x xs p h (suc i) l = h i (omega arith)
 
-  pub each-drop : (k : ℕ) (xs : List A) → Each P d xs → Each P d (drop k xs)
-  each-drop zero xs h = h
-  each-drop (suc k) [] h = h
-  each-drop (suc k) (x ∷ xs) h = each-drop k xs (each_tail x xs h)
+  pub each_drop : (k : ℕ) (xs : List A) → Each P d xs → Each P d (drop k xs)
+  each_drop zero xs h = h
+  each_drop (suc k) [] h = h
+  each_drop (suc k) (x ∷ xs) h = each_drop k xs (each_tail x xs h)
 
   pub each_take : (k : ℕ) (xs : List A) → Each P d xs → Each P d (take k xs)
   each_take zero xs h = each_nil

@@ -6,7 +6,7 @@ use Rattle.std.proofs.Math.Path.{refl, ap}
 use Rattle.rules.specs.RefusalNumbers.{Refusal, Answer, given, refused, and_then, broken_record}
 use Rattle.rules.specs.Fields.{little_endian, from_little_endian, field, field_here, field_size, Field, contents, sound_here, Reading, sound_or, field_then}
 use Rattle.record_laws.specs.Words.{IsByte, AreBytes, FieldBegins, first, behind}
-use Rattle.record_laws.specs.Each.{each-drop, both, all_three}
+use Rattle.record_laws.specs.Each.{each_drop, both, all_three}
 use Rattle.record_laws.specs.Bytes.{little_endian_length, little_endian_back, little_endian_again}
 
 -- ---- a field
@@ -47,14 +47,14 @@ found tag n rest e =
     record { whole = leb-true _ _ t.0; its_tag = eqb-true _ _ t.1; its_length = eqb-true _ _ t.2 }
 
 -- a field that was found is what writing its contents gives
-pub field-again : (tag n : ℕ) (rest : List ℕ) → AreBytes rest → Found tag n rest → field tag (take n (drop 3 rest)) ++ drop (field_size n) rest ≡ rest
+pub field_again : (tag n : ℕ) (rest : List ℕ) → AreBytes rest → Found tag n rest → field tag (take n (drop 3 rest)) ++ drop (field_size n) rest ≡ rest
 unfolding field
-field-again tag n [] bs f = absurd (omega arith)
-field-again tag n (t ∷ []) bs f = absurd (omega arith)
-field-again tag n (t ∷ a ∷ []) bs f = absurd (omega arith)
-field-again tag n (t ∷ a ∷ b ∷ cs) bs f =
+field_again tag n [] bs f = absurd (omega arith)
+field_again tag n (t ∷ []) bs f = absurd (omega arith)
+field_again tag n (t ∷ a ∷ []) bs f = absurd (omega arith)
+field_again tag n (t ∷ a ∷ b ∷ cs) bs f =
     let number : little_endian 2 n ≡ a ∷ b ∷ [] =
-    ap (little_endian 2) (sym f.its_length) ∙ little_endian_again 2 (a ∷ b ∷ cs) (each-drop IsByte 0 1 (t ∷ a ∷ b ∷ cs) bs) (omega arith) in
+    ap (little_endian 2) (sym f.its_length) ∙ little_endian_again 2 (a ∷ b ∷ cs) (each_drop IsByte 0 1 (t ∷ a ∷ b ∷ cs) bs) (omega arith) in
     let many : length (take n cs) ≡ n = length-take-le n cs (omega arith) in
     ap₂ (λ (x y : List ℕ). x ++ y)
     (ap₂ (λ (x : ℕ) (m : List ℕ). x ∷ m ++ take n cs) (sym f.its_tag) (ap (little_endian 2) many ∙ number))

@@ -15,7 +15,7 @@ use Rattle.rules.specs.Fields.{little_endian, from_little_endian, float_bytes, f
 use Rattle.rules.specs.MapRecord.{extent_bytes, extents_in, same_bits}
 use Rattle.rules.specs.EditionTwo.{stamp_bytes, stamps_in}
 use Rattle.record_laws.specs.Words.{Each, IsByte, AreBytes, Is64, Are64, NotNan, NoNan}
-use Rattle.record_laws.specs.Each.{each_nil, each_tail, each_cons, each-drop}
+use Rattle.record_laws.specs.Each.{each_nil, each_tail, each_cons, each_drop}
 use Rattle.record_laws.specs.Bytes.{little_endian_length, little_endian_back, little_endian_again, little_endian_below}
 
 -- ---- numbers of k bytes
@@ -71,7 +71,7 @@ module _ {A : Type 0} (k : ℕ) (to : A → ℕ) (of : ℕ → A) (P : A → Typ
       rw e
       (ap₂ (λ (x y : List ℕ). x ++ y)
       (ap (little_endian k) (again m (little_endian_below k bs b) (h 0 (omega arith))) ∙ little_endian_again k bs b (omega arith))
-      (unpacked_again again n (drop k bs) (each-drop IsByte 0 k bs b) (simp length-drop (omega arith))
+      (unpacked_again again n (drop k bs) (each_drop IsByte 0 k bs b) (simp length-drop (omega arith))
       (each_tail P d (of m) (unpacked k of n (drop k bs)) h))
       ∙ sym (take-add k (k * n) bs))
 
@@ -179,7 +179,7 @@ pub stamps_back : (ss rest : List ℕ) (n : ℕ) → length ss ≡ n → Each In
 stamps_back ss rest n e h =
     rw (← e, stamps_packed, stamps_unpacked) (packed_back 4 (λ s. s) (λ s. s) InFourBytes 0 (λ x p. (p, refl)) ss rest h)
 
-pub stamps-again : (n : ℕ) (bs : List ℕ) → AreBytes bs → 4 * n ≤ length bs → stamp_bytes (stamps_in n bs) ≡ take (4 * n) bs
-stamps-again n bs b l =
+pub stamps_again : (n : ℕ) (bs : List ℕ) → AreBytes bs → 4 * n ≤ length bs → stamp_bytes (stamps_in n bs) ≡ take (4 * n) bs
+stamps_again n bs b l =
     rw (stamps_packed, stamps_unpacked)
     (unpacked_again 4 (λ s. s) (λ s. s) (λ s. Unit {0}) 0 (λ m l p. refl) n bs b l (unpacked_each 4 (λ s. s) (λ s. Unit {0}) 0 (λ m. tt) n bs))

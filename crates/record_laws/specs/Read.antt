@@ -16,10 +16,10 @@ use Rattle.rules.specs.Fields.{from_little_endian, short_size, word_size, floats
 use Rattle.rules.specs.MapRecord.{extents_tag, extents_length, extents_field, model_tag, model_length, model_field, frame_tag, frame_length, frame_field, row_length}
 use Rattle.rules.specs.MapRecord.{Stored, row_width, row_count, rows_bytes, record_bytes, rows_offset, record_of, equal_pairs, pairs_checked, record_size, room_for, writable}
 use Rattle.record_laws.specs.Words.{IsByte, AreBytes, NotNan, NoNan, Held, first, Sound, plain_head}
-use Rattle.record_laws.specs.Each.{each_nil, each_cons, each-drop, all_three}
+use Rattle.record_laws.specs.Each.{each_nil, each_cons, each_drop, all_three}
 use Rattle.record_laws.specs.Bytes.{little_endian_again}
 use Rattle.record_laws.specs.Numbers.{extents_in_length, extents_again, floats_in_length, floats_in_64, floats_again}
-use Rattle.record_laws.specs.Fields.{Found, field-again, BrokenAt, field_given, field-broken}
+use Rattle.record_laws.specs.Fields.{Found, field_again, BrokenAt, field_given, field-broken}
 use Rattle.record_laws.specs.Rows.{RowsRead, EndRead, rows_given, end_given, rows_broken_lem, end-broken}
 use Rattle.record_laws.specs.Heads.{rows_are_cells, writing_passes}
 use Rattle.record_laws.specs.Back.{model_floats}
@@ -105,7 +105,7 @@ module _ (axes : ℕ) (bytes : List ℕ) (s : Stored) (p : Parts axes bytes s) w
       let b = drop head_size (behind_extents axes bytes) in
       let at = floats_in_64 3 b in
       let three = floats_in_length 3 b in
-      record { occupied = at 0 (omega arith); free = at 1 (omega arith); ceiling = at 2 (omega arith); above = tt; layer = refl; each-odds = p.rows.held }
+      record { occupied = at 0 (omega arith); free = at 1 (omega arith); ceiling = at 2 (omega arith); above = tt; layer = refl; each_odds = p.rows.held }
 
   sound_of : 0 < axes → Sound axes bytes (record { head = head_in axes bytes; odds = p.odds })
   sound_of some-axis =
@@ -155,26 +155,26 @@ record_again axes bytes s p b =
     let rest₁ = behind_extents axes bytes in
     let rest₂ = behind_model axes bytes in
     let rest₃ = behind_frame axes bytes in
-    let b₁ = each-drop IsByte 0 (field_size (extents_length axes)) bytes b in
-    let b₂ = each-drop IsByte 0 (field_size model_length) rest₁ b₁ in
-    let b₃ = each-drop IsByte 0 (field_size frame_length) rest₂ b₂ in
-    let b₄ = each-drop IsByte 0 (rows_size axes bytes) rest₃ b₃ in
+    let b₁ = each_drop IsByte 0 (field_size (extents_length axes)) bytes b in
+    let b₂ = each_drop IsByte 0 (field_size model_length) rest₁ b₁ in
+    let b₃ = each_drop IsByte 0 (field_size frame_length) rest₂ b₂ in
+    let b₄ = each_drop IsByte 0 (rows_size axes bytes) rest₃ b₃ in
     let i = p.extents_found.whole in
     let j = p.model_found.whole in
     let k = p.frame_found.whole in
     simp append_assoc
     (ap₂ (λ (x y : List ℕ). field extents_tag x ++ y)
-    (extents_again axes (drop head_size bytes) (each-drop IsByte 0 head_size bytes b) (omega (arith, length-drop head_size bytes)))
+    (extents_again axes (drop head_size bytes) (each_drop IsByte 0 head_size bytes b) (omega (arith, length-drop head_size bytes)))
     (ap₂ (λ (x y : List ℕ). field model_tag x ++ y)
-    (floats_again 3 (drop head_size rest₁) (each-drop IsByte 0 head_size rest₁ b₁) (omega (arith, length-drop head_size rest₁))
+    (floats_again 3 (drop head_size rest₁) (each_drop IsByte 0 head_size rest₁ b₁) (omega (arith, length-drop head_size rest₁))
     (model-not-nan (head_in axes bytes).model.lowest (head_in axes bytes).model.ceiling p.model_sound))
     (ap₂ (λ (x y : List ℕ). field frame_tag x ++ y)
-    (little_endian_again word_size (drop head_size rest₂) (each-drop IsByte 0 head_size rest₂ b₂) (omega (arith, length-drop head_size rest₂)))
+    (little_endian_again word_size (drop head_size rest₂) (each_drop IsByte 0 head_size rest₂ b₂) (omega (arith, length-drop head_size rest₂)))
     (ap (λ (x : List ℕ). rows_bytes (row_width (head_in axes bytes).extents) (row_count (head_in axes bytes).extents) p.odds ++ x) (p.end.again b₄)
     ∙ p.rows.again b₃)
-    ∙ field-again frame_tag frame_length rest₂ b₂ p.frame_found)
-    ∙ field-again model_tag model_length rest₁ b₁ p.model_found)
-    ∙ field-again extents_tag (extents_length axes) bytes b p.extents_found)
+    ∙ field_again frame_tag frame_length rest₂ b₂ p.frame_found)
+    ∙ field_again model_tag model_length rest₁ b₁ p.model_found)
+    ∙ field_again extents_tag (extents_length axes) bytes b p.extents_found)
 
 pub read_again : (axes : ℕ) (bytes : List ℕ) (s : Stored) → record_of axes bytes ≡ given s → AreBytes bytes → record_bytes s.head s.odds ≡ bytes
 read_again axes bytes s e b =

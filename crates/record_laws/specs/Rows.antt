@@ -11,14 +11,14 @@ use Rattle.rules.specs.Fields.{Reading, sound_or, field_then, rows_then, nothing
 use Rattle.rules.specs.MapRecord.{row_tag, row_length, row_field, end_tag, end_length, end_field, from_floor_to_ceiling, odds_in_bounds}
 use Rattle.rules.specs.MapRecord.{rows_bytes, joined, odds_then, end_then, rows_checked}
 use Rattle.record_laws.specs.Words.{IsByte, AreBytes, Is64, Are64, NotNan, NoNan}
-use Rattle.record_laws.specs.Each.{each_nil, each_cons, each_take, each-drop, each_append, both}
+use Rattle.record_laws.specs.Each.{each_nil, each_cons, each_take, each_drop, each_append, both}
 use Rattle.record_laws.specs.Numbers.{float_bytes_length, floats_in_length, floats_back, floats_in_64, floats_again}
-use Rattle.record_laws.specs.Fields.{field-length, field-again, Found, sound_given}
+use Rattle.record_laws.specs.Fields.{field-length, field_again, Found, sound_given}
 use Rattle.record_laws.specs.Fields.{Reached, BrokenAt, broken_here, field_back, field_given, field-broken}
 
 -- ---- written
-pub row-length : (w : ℕ) (odds : List Float) → w ≤ length odds → length (float_bytes (take w odds)) ≡ 8 * w
-row-length w odds l = float_bytes_length (take w odds) ∙ ap (λ (k : ℕ). 8 * k) (length-take-le w odds l)
+pub row_length_lem : (w : ℕ) (odds : List Float) → w ≤ length odds → length (float_bytes (take w odds)) ≡ 8 * w
+row_length_lem w odds l = float_bytes_length (take w odds) ∙ ap (λ (k : ℕ). 8 * k) (length-take-le w odds l)
 
 -- one row fewer, of one row's odds or stamps fewer
 pub rows_left : {A : Type 0} (w n : ℕ) (xs : List A) → length xs ≡ suc n * w → (w ≤ length xs) × (length (drop w xs) ≡ n * w)
@@ -30,7 +30,7 @@ rows_bytes_length w zero odds e = sym (zero-mul (field_size (8 * w)))
 rows_bytes_length w (suc n) odds e =
     let r = rows_left w n odds e in
     length-append (field 4 (float_bytes (take w odds))) (rows_bytes w n (drop w odds))
-    ∙ ap₂ ◌+◌ (field-length 4 (float_bytes (take w odds)) ∙ ap field_size (row-length w odds r.0)) (rows_bytes_length w n (drop w odds) r.1)
+    ∙ ap₂ ◌+◌ (field-length 4 (float_bytes (take w odds)) ∙ ap field_size (row_length_lem w odds r.0)) (rows_bytes_length w n (drop w odds) r.1)
     ∙ omega arith
 
 -- ---- written, then read
@@ -52,9 +52,9 @@ rows_back m w (suc n) o q odds rest next c e h l =
     let after = rows_bytes w n (drop w odds) ++ rest in
     let k : o + size + n * size ≡ o + suc n * size = omega (arith, suc-mul n size) in
     rw append_assoc
-    (field_back (row_field m w) (λ xs. odds_then m w n (λ ys. next (xs ++ ys))) (float_bytes row) after row o (row-length w odds r.0) l
+    (field_back (row_field m w) (λ xs. odds_then m w n (λ ys. next (xs ++ ys))) (float_bytes row) after row o (row_length_lem w odds r.0) l
     (floats_back row after w (length-take-le w odds r.0) (each_take Is64 nan w odds h)) s.0
-    ∙ rows_back m w n (o + size) (q + size) (drop w odds) rest (λ ys. next (row ++ ys)) s.1 r.1 (each-drop Is64 nan w odds h) l
+    ∙ rows_back m w n (o + size) (q + size) (drop w odds) rest (λ ys. next (row ++ ys)) s.1 r.1 (each_drop Is64 nan w odds h) l
     ∙ ap₂ (λ (xs : List Float) (at : ℕ). next xs at rest) (take-append-drop w odds) k)
 
 -- ---- read
@@ -127,9 +127,9 @@ one_row_read m w n rest ys f sound r =
         let k : field_size (row_length w) + n * field_size (row_length w) ≡ suc n * field_size (row_length w) = omega (arith, suc-mul n (field_size (row_length w))) in
         rw (first, others, append_assoc, sym k, sym (drop-drop (n * field_size (row_length w)) (field_size (row_length w)) rest))
         (ap₂ (λ (x y : List ℕ). field row_tag x ++ y)
-        (floats_again w (drop head_size rest) (each-drop IsByte 0 head_size rest b) (omega (arith, length-drop head_size rest, f.whole)) here)
-        (r.again (each-drop IsByte 0 (field_size (row_length w)) rest b))
-        ∙ field-again row_tag (row_length w) rest b f)
+        (floats_again w (drop head_size rest) (each_drop IsByte 0 head_size rest b) (omega (arith, length-drop head_size rest, f.whole)) here)
+        (r.again (each_drop IsByte 0 (field_size (row_length w)) rest b))
+        ∙ field_again row_tag (row_length w) rest b f)
 
 -- rows that were read, and what was given behind them
 pub record RowsPassed {B : Type 0} (m : Model) (w n : ℕ) (next : List Float → Reading B) (o : ℕ) (rest : List ℕ) (b : B) : Type 0 where
@@ -163,9 +163,9 @@ pub record EndRead {B : Type 0} (rest : List ℕ) (a b : B) : Type 0 where
   pub size : length rest ≡ field_size end_length
   pub again : AreBytes rest → field end_tag [] ≡ rest
 
-end-again : (rest : List ℕ) → AreBytes rest → Found end_tag end_length rest → length rest ≡ 3 → field end_tag [] ≡ rest
+end_again : (rest : List ℕ) → AreBytes rest → Found end_tag end_length rest → length rest ≡ 3 → field end_tag [] ≡ rest
 unfolding field little_endian
-end-again rest b f l = ap (λ (x : List ℕ). field end_tag [] ++ x) (sym (drop_of_length-le rest {i = 3} (omega arith))) ∙ field-again end_tag end_length rest b f
+end_again rest b f l = ap (λ (x : List ℕ). field end_tag [] ++ x) (sym (drop_of_length-le rest {i = 3} (omega arith))) ∙ field_again end_tag end_length rest b f
 
 pub end_given : {B : Type 0} (a : B) (o : ℕ) (rest : List ℕ) (b : B) → end_then a o rest ≡ given b → EndRead rest a b
 unfolding nothing_follows
@@ -179,7 +179,7 @@ end_given a o rest b e =
     go true t f g =
         let none = eqb-true (length (drop (field_size end_length) rest)) 0 t in
         let l : length rest ≡ 3 = omega (arith, length-drop (field_size end_length) rest, f.whole) in
-        record { is = cc; size = l; again = λ b. end-again rest b f l }
+        record { is = cc; size = l; again = λ b. end_again rest b f l }
 
 -- ---- refused
 pub end-broken : {B : Type 0} (bytes : List ℕ) (a : B) (o : ℕ) (rest : List ℕ) (r : Refusal) → Reached bytes o rest → end_then a o rest ≡ refused r → BrokenAt bytes r

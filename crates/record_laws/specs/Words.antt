@@ -51,7 +51,7 @@ pub record Held (h : Head) (odds : List Float) : Type 0 where
   pub ceiling : Is64 h.model.ceiling
   pub above : HeldBands h.model.above
   pub layer : LaidOn h.extents h.model.above h.model.layer
-  pub each-odds : Are64 odds
+  pub each_odds : Are64 odds
 
 -- the cuts of a model, and the head that edition 1 keeps: one pair and no cuts
 abbrev pub cuts_of : List Band → List ℕ

@@ -2,6 +2,7 @@
 // original's own program printed it (docs/DIFFERENCES.md says how); what this prints is held to the file `stdout`. A
 // line that cannot be read counts as one that differs.
 #![tactic(auto)]
+
 use crate::kinds::KINDS;
 use crate::page::page;
 use crate::pieces::replay;

@@ -19,8 +19,8 @@ module _ (w : ℕ) where
   abbrev pub row : List Float → List ℕ
   row odds = field row_tag (float_bytes (take w odds))
 
-  pub length-row : (at : ℕ) (odds : List Float) → at + w ≤ length odds → length (row (drop at odds)) ≡ field_size (row_length w)
-  length-row at odds h =
+  pub length_row : (at : ℕ) (odds : List Float) → at + w ≤ length odds → length (row (drop at odds)) ≡ field_size (row_length w)
+  length_row at odds h =
       length-field row_tag (float_bytes (take w (drop at odds)))
       ∙ ap field_size (length_float_bytes (take w (drop at odds)) ∙ ap (λ (k : ℕ). 8 * k) (length_part w at odds h))
 
@@ -35,7 +35,7 @@ module _ (w : ℕ) where
   length_rows_bytes (suc n) at odds h =
       let s = suc-mul n w in
       let t = suc-mul n (field_size (row_length w)) in
-      let a = length-row at odds (omega arith) in
+      let a = length_row at odds (omega arith) in
       let b = length_rows_bytes n (at + w) odds (omega arith) in
       length-append (row (drop at odds)) (rows_bytes w n (drop w (drop at odds)))
       ∙ ap (λ (rest : List Float). length (row (drop at odds)) + length (rows_bytes w n rest)) (drop-drop w at odds) ∙ omega arith

@@ -145,7 +145,7 @@ pub record Figures : Type 0 where
   pub containing_on_the_face : containing (plus 10 1) ≡ refused (out_of_bounds 0 (pos 10) 10 1)
   -- "*Frame 2147483646 opens 2147483647; 2147483647 clears and opens 1."
   pub opens_the_highest : opens 2147483646 ≡ record { answer = given (head_of 2 2 2147483647); lent = 9 ∷ 9 ∷ 9 ∷ 9 ∷ [] }
-  pub opens-again-at-one : opens 2147483647 ≡ record { answer = given (head_of 2 2 1); lent = 0 ∷ 0 ∷ 0 ∷ 0 ∷ [] }
+  pub opens_again_at_one : opens 2147483647 ≡ record { answer = given (head_of 2 2 1); lent = 0 ∷ 0 ∷ 0 ∷ 0 ∷ [] }
 
 -- Opening this one opens every definition of the rules and the library's float operations, so that the figures compute.
 unfoldable opened : ℕ
@@ -173,5 +173,5 @@ figures =
       containing-below = refl;
       containing_on_the_face = refl;
       opens_the_highest = refl;
-      opens-again-at-one = refl;
+      opens_again_at_one = refl;
     }

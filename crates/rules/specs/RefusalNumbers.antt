@@ -63,8 +63,8 @@ abbrev pub broken_sweep : ℕ → Refusal
 broken_sweep offset = record { number = 12; values = pos offset ∷ [] }
 
 -- "13, odds not a number" | change request 3: `set_log_odds_checked` with NaN | -
-abbrev pub odds_not_aNumber : Refusal
-odds_not_aNumber = record { number = 13; values = [] }
+abbrev pub odds_not_a_number : Refusal
+odds_not_a_number = record { number = 13; values = [] }
 
 -- request 4: "14, lists of unequal count"
 abbrev pub unequal_lists : Refusal

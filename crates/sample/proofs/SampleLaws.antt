@@ -13,14 +13,14 @@ use Rattle.sample.specs.Sampling.{by_bit, odds_from, total, highest_corner}
 use Rattle.sample.proofs.StencilLaws.{cell-above, at_least_first, at_least_rest}
 
 -- ---- the last axis of a stencil, taken first
-place-last : (base s : ℕ) (ss : List ℕ) (c : List Bool)
+place_last : (base s : ℕ) (ss : List ℕ) (c : List Bool)
     → corner_place base (ss ++ s ∷ []) c ≡ corner_place (base + cond (get_or c (length ss) false) s 0) ss c
 unfolding corner_place
-place-last base s [] [] = sym (add-zero base)
-place-last base s [] (b ∷ bs) = refl
-place-last base s (t ∷ ts) [] = sym (add-zero base)
-place-last base s (t ∷ ts) (b ∷ bs) =
-    place-last (base + cond b t 0) s ts bs
+place_last base s [] [] = sym (add-zero base)
+place_last base s [] (b ∷ bs) = refl
+place_last base s (t ∷ ts) [] = sym (add-zero base)
+place_last base s (t ∷ ts) (b ∷ bs) =
+    place_last (base + cond b t 0) s ts bs
     ∙ ap (λ (n : ℕ). corner_place n ts bs) (add_right_comm base (cond b t 0) (cond (get_or bs (length ts) false) s 0))
 
 -- the corners on both sides of an axis are those of the axes before it, read twice, one stride apart
@@ -32,11 +32,11 @@ both_sides odds base s ss low high l h = fun_ext (λ c. go c (get_or c (length s
     go : (c : List Bool) (b : Bool) → get_or c (length ss) false ≡ b → cond b (high c) (low c) ≡ get_or odds (corner_place base (ss ++ s ∷ []) c) nan
     go c true e =
         ap (λ (g : List Bool → Float). g c) h
-        ∙ ap (λ (n : ℕ). get_or odds n nan) (sym (place-last base s ss c ∙ ap (λ (b : Bool). corner_place (base + cond b s 0) ss c) e))
+        ∙ ap (λ (n : ℕ). get_or odds n nan) (sym (place_last base s ss c ∙ ap (λ (b : Bool). corner_place (base + cond b s 0) ss c) e))
     go c false e =
         ap (λ (g : List Bool → Float). g c) l
         ∙ ap (λ (n : ℕ). get_or odds n nan)
-        (sym (place-last base s ss c ∙ ap (λ (b : Bool). corner_place (base + cond b s 0) ss c) e ∙ ap (λ (n : ℕ). corner_place n ss c) (add-zero base)))
+        (sym (place_last base s ss c ∙ ap (λ (b : Bool). corner_place (base + cond b s 0) ss c) e ∙ ap (λ (n : ℕ). corner_place n ss c) (add-zero base)))
 
 -- one cell alone
 pub one_cell : (odds : List Float) (base : ℕ) → (λ (c : List Bool). get_or odds base nan) ≡ odds_from odds base []

@@ -41,18 +41,18 @@ module _ (a b c d e f g h i j k m : ℕ) (rest : List ℕ) (r : ℕ) where
   abbrev twelve : List ℕ
   twelve = a ∷ b ∷ c ∷ d ∷ e ∷ f ∷ g ∷ h ∷ i ∷ j ∷ k ∷ m ∷ []
 
-  each-total : (t : ℕ) → t ≤ 8 → at_front (twelve ++ rest) t r ≡ plus twelve (night_column t r) ++ rest
+  each_total : (t : ℕ) → t ≤ 8 → at_front (twelve ++ rest) t r ≡ plus twelve (night_column t r) ++ rest
   unfolding plus night_column
-  each-total zero q = simp add-zero
-  each-total (suc zero) q = simp add-zero
-  each-total (suc (suc zero)) q = simp add-zero
-  each-total (suc (suc (suc zero))) q = simp add-zero
-  each-total (suc (suc (suc (suc zero)))) q = simp add-zero
-  each-total (suc (suc (suc (suc (suc zero))))) q = simp add-zero
-  each-total (suc (suc (suc (suc (suc (suc zero)))))) q = simp add-zero
-  each-total (suc (suc (suc (suc (suc (suc (suc zero))))))) q = simp add-zero
-  each-total (suc (suc (suc (suc (suc (suc (suc (suc zero)))))))) q = simp add-zero
-  each-total (suc (suc (suc (suc (suc (suc (suc (suc (suc t))))))))) q = absurd (omega arith)
+  each_total zero q = simp add-zero
+  each_total (suc zero) q = simp add-zero
+  each_total (suc (suc zero)) q = simp add-zero
+  each_total (suc (suc (suc zero))) q = simp add-zero
+  each_total (suc (suc (suc (suc zero)))) q = simp add-zero
+  each_total (suc (suc (suc (suc (suc zero))))) q = simp add-zero
+  each_total (suc (suc (suc (suc (suc (suc zero)))))) q = simp add-zero
+  each_total (suc (suc (suc (suc (suc (suc (suc zero))))))) q = simp add-zero
+  each_total (suc (suc (suc (suc (suc (suc (suc (suc zero)))))))) q = simp add-zero
+  each_total (suc (suc (suc (suc (suc (suc (suc (suc (suc t))))))))) q = absurd (omega arith)
 
 front : (l : List ℕ) (t r : ℕ) → 12 ≤ length l → t ≤ 8 → at_front l t r ≡ plus (take 12 l) (night_column t r) ++ drop 12 l
 front [] t r p q = absurd (omega arith)
@@ -67,7 +67,7 @@ front (a ∷ b ∷ c ∷ d ∷ e ∷ f ∷ g ∷ h ∷ []) t r p q = absurd (ome
 front (a ∷ b ∷ c ∷ d ∷ e ∷ f ∷ g ∷ h ∷ i ∷ []) t r p q = absurd (omega arith)
 front (a ∷ b ∷ c ∷ d ∷ e ∷ f ∷ g ∷ h ∷ i ∷ j ∷ []) t r p q = absurd (omega arith)
 front (a ∷ b ∷ c ∷ d ∷ e ∷ f ∷ g ∷ h ∷ i ∷ j ∷ k ∷ []) t r p q = absurd (omega arith)
-front (a ∷ b ∷ c ∷ d ∷ e ∷ f ∷ g ∷ h ∷ i ∷ j ∷ k ∷ m ∷ rest) t r p q = each-total a b c d e f g h i j k m rest r t q
+front (a ∷ b ∷ c ∷ d ∷ e ∷ f ∷ g ∷ h ∷ i ∷ j ∷ k ∷ m ∷ rest) t r p q = each_total a b c d e f g h i j k m rest r t q
 
 -- ---- the columns in order
 module _ (report₀ chart : List ℕ) where

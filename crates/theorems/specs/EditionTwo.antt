@@ -20,11 +20,11 @@ use Rattle.rules.specs.MapRecord.{Stored, record_bytes, record_of, any_record_of
 use Rattle.rules.specs.EditionTwo.{Kept, kept, cuts_for, cuts_of, stamps_kept, edition_bytes, edition_of, edition_size}
 use Rattle.record_laws.specs.Words.{AreBytes, Held}
 use Rattle.record_laws.specs.Fields.{begins_within}
-use Rattle.record_laws.specs.EditionTwo.Read.{edition-again, edition_sound}
+use Rattle.record_laws.specs.EditionTwo.Read.{edition_again, edition_sound}
 use Rattle.record_laws.specs.EditionTwo.Written.{edition-length}
 use Rattle.record_laws.specs.EditionTwo.Back.{edition_back}
 use Rattle.record_laws.specs.EditionTwo.Broken.{edition-broken}
-use Rattle.theorems.specs.MapRecord.{one-offset}
+use Rattle.theorems.specs.MapRecord.{one_offset}
 use Rattle.theorems.specs.EditionTwo.Words.{IsEdition, IsNoEdition, SameLoading, HasNoEditionOne}
 use Rattle.theorems.specs.EditionTwo.Entries.{loads, loaded-from, same-loading, stored_into, stores}
 use Rattle.theorems.specs.EditionTwo.Moves.{moved_up, moves_up, laid_on, up_is, moves_back, not_back, only_then}
@@ -69,7 +69,7 @@ entries_read_then_written axes bytes g l out some-axis b answer room =
     ap₂ (λ (x : Loaded) (y : Outcome Loaded Grid). write_edition_entry x.head x.running y.lent out) (sym r.says)
     (loads axes bytes k g r.is r.sizes)
     ∙ stores k.head k.running k.grid out (length bytes) sound.passes (sound.written (length out) room)
-    ∙ ap (λ (x : List ℕ). record { answer = given (length bytes); lent = x ++ drop (length bytes) out }) (edition-again axes bytes k r.is b)
+    ∙ ap (λ (x : List ℕ). record { answer = given (length bytes); lent = x ++ drop (length bytes) out }) (edition_again axes bytes k r.is b)
 
 -- ---- two readings
 -- Two grids lent to read the same bytes, whatever they hold, get the same answer if they have the same sizes; and where
@@ -90,7 +90,7 @@ edition_or_broken axes bytes some-axis = go (edition_of axes bytes) refl
         inr (record {
           offset = b.offset;
           is = e ∙ ap refused (sym b.is);
-          only = λ o q. let z : broken_record o ≡ broken_record b.offset = cc b.is in one-offset o b.offset z;
+          only = λ o q. let z : broken_record o ≡ broken_record b.offset = cc b.is in one_offset o b.offset z;
           begins = b.begins;
           within = begins_within bytes b.offset b.begins;
         })

@@ -24,10 +24,10 @@ abbrev pub lone_vote : Format → Head → Grid → ℕ → Float
 lone_vote f h g i = cloud_alone f (steps_at h.model i) (get_or g.odds i nan)
 
 -- of the grid that is left after these beams, or whatever was handed over
-pub record FloorCost {A : Type 0} (f : Format) (h : Head) (g : Grid) (marksOf : A → Answer (List Mark)) (bs : List A) (after : Grid) : Type 0 where
+pub record FloorCost {A : Type 0} (f : Format) (h : Head) (g : Grid) (marks_of : A → Answer (List Mark)) (bs : List A) (after : Grid) : Type 0 where
   -- A cell that a beam hit ends no higher than a lone cloud vote would leave it,
-  pub no_higher : (i : ℕ) → i < cells h.extents → Hit marksOf bs i → T (le (cell_at after i).odds (lone_vote f h g i))
+  pub no_higher : (i : ℕ) → i < cells h.extents → Hit marks_of bs i → T (le (cell_at after i).odds (lone_vote f h g i))
   -- and no lower than that and one clear step, which is below zero. The sum is exact: both are multiples of the unit,
   -- far below the format's largest whole number of units.
-  pub one_clear_step : (i : ℕ) → i < cells h.extents → Hit marksOf bs i
+  pub one_clear_step : (i : ℕ) → i < cells h.extents → Hit marks_of bs i
       → T (le (add f (lone_vote f h g i) (steps_at h.model i).free) (cell_at after i).odds)

@@ -88,8 +88,8 @@ pub two_readings : (axes : ℕ) (cuts bytes : List ℕ) (g k : Grid) → SameRea
 two_readings = same-reading
 
 -- ---- all bytes
-pub one-offset : (o p : ℕ) → broken_record o ≡ broken_record p → o ≡ p
-one-offset o p e = let v : pos o ∷ [] ≡ pos p ∷ [] = ap (λ (r : Refusal). r.values) e in cc
+pub one_offset : (o p : ℕ) → broken_record o ≡ broken_record p → o ≡ p
+one_offset o p e = let v : pos o ∷ [] ≡ pos p ∷ [] = ap (λ (r : Refusal). r.values) e in cc
 
 -- Every list of numbers is a record, as long as its extents say and with a map that may be written again; or it is
 -- refused at one offset, where a field begins, at most its end.
@@ -103,7 +103,7 @@ record_or_broken axes bytes some-axis = go (record_of axes bytes) refl
         inr (record {
           offset = b.offset;
           is = e ∙ ap refused (sym b.is);
-          only = λ o q. let z : broken_record o ≡ broken_record b.offset = cc b.is in one-offset o b.offset z;
+          only = λ o q. let z : broken_record o ≡ broken_record b.offset = cc b.is in one_offset o b.offset z;
           begins = b.begins;
           within = begins_within bytes b.offset b.begins;
         })

@@ -23,9 +23,9 @@ halved : (b : Bool) (s : ℕ) → with_bit b s / 2 ≡ s
 halved true s = omega arith
 halved false s = omega arith
 
-later-bit : (k : ℕ) (b : Bool) (s : ℕ) → bit (suc k) (with_bit b s) ≡ bit k s
+later_bit : (k : ℕ) (b : Bool) (s : ℕ) → bit (suc k) (with_bit b s) ≡ bit k s
 unfolding bit
-later-bit k b s = ap (bit k) (halved b s)
+later_bit k b s = ap (bit k) (halved b s)
 
 -- A cell: an axis is in the set where its index is off.
 pub off_axis : (es : List ℕ) (is : List ℤ) (k : ℕ) → length is ≡ length es → k < length es
@@ -34,7 +34,7 @@ unfolding off_axes
 off_axis [] is k l h = absurd (omega arith)
 off_axis (e ∷ es) [] k l h = absurd (omega arith)
 off_axis (e ∷ es) (i ∷ is) zero l h = first_bit (is_off (along e i)) (off_axes es is)
-off_axis (e ∷ es) (i ∷ is) (suc k) l h = later-bit k (is_off (along e i)) (off_axes es is) ∙ off_axis es is k (omega arith) (omega arith)
+off_axis (e ∷ es) (i ∷ is) (suc k) l h = later_bit k (is_off (along e i)) (off_axes es is) ∙ off_axis es is k (omega arith) (omega arith)
 
 -- A point: up to the first coordinate that is not finite, an axis is in the set where its coordinate is not in [0,
 -- extent).
@@ -61,5 +61,5 @@ outside_axis f (e ∷ es) (x ∷ xs) (suc k) l h = go (finite x) (outside_axis f
 
     go : (b : Bool) → bit k (outside_axes f es xs) ≡ cond (finite_up_to k xs) (as_bit (not (within f (get_or es k 0) (get_or xs k nan)))) 0
         → bit (suc k) (cond b (with_bit (not (within f e x)) (outside_axes f es xs)) 0) ≡ cond (b && finite_up_to k xs) (as_bit (not (within f (get_or es k 0) (get_or xs k nan)))) 0
-    go true ih = later-bit k (not (within f e x)) (outside_axes f es xs) ∙ ih
+    go true ih = later_bit k (not (within f e x)) (outside_axes f es xs) ∙ ih
     go false ih = empty (suc k)

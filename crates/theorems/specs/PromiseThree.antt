@@ -39,19 +39,19 @@ sweep f h g bs = integrated f h.extents h.model (frame_opened h) bs (grid_opened
 -- ---- cells, and what is handed to a sweep
 -- something of the list makes this mark; a beam makes the marks that `beam_marks` gives, and what else a sweep may be
 -- handed has its own
-pub record Makes {A : Type 0} (marksOf : A → Answer (List Mark)) (bs : List A) (x : Mark) : Type 0 where
+pub record Makes {A : Type 0} (marks_of : A → Answer (List Mark)) (bs : List A) (x : Mark) : Type 0 where
   pub giver : A
   pub among : Memᴰ giver bs
   pub marks : List Mark
-  pub its_marks : marksOf giver ≡ given marks
+  pub its_marks : marks_of giver ≡ given marks
   pub one_of_them : Memᴰ x marks
 
 -- something of the list hit the cell at this place in the lists, or touched it at all
 abbrev pub Hit : {A : Type 0} → (A → Answer (List Mark)) → List A → ℕ → Type 0
-Hit marksOf bs i = Makes marksOf bs (record { place = i; occupied = true })
+Hit marks_of bs i = Makes marks_of bs (record { place = i; occupied = true })
 
 abbrev pub Touched : {A : Type 0} → (A → Answer (List Mark)) → List A → ℕ → Type 0
-Touched marksOf bs i = (occupied : Bool) × Makes marksOf bs (record { place = i; occupied = occupied })
+Touched marks_of bs i = (occupied : Bool) × Makes marks_of bs (record { place = i; occupied = occupied })
 
 -- two lists with the same beams, or of the same of whatever was handed over, in any order and with any repeats
 pub record Same {A : Type 0} (bs cs : List A) : Type 0 where
@@ -133,19 +133,19 @@ abbrev pub cloud_after_clear : Format → Steps → ℕ → Float → Float
 cloud_after_clear f s k o = occupy f s (freed f s o) (occupied_step f s k (record { odds = freed f s o; stamp = stamp_of k false }))
 
 -- how each cell stands on the grid that is left after these beams, or whatever was handed over
-pub record Ends {A : Type 0} (f : Format) (h : Head) (g : Grid) (marksOf : A → Answer (List Mark)) (bs : List A) (after : Grid) : Type 0 where
+pub record Ends {A : Type 0} (f : Format) (h : Head) (g : Grid) (marks_of : A → Answer (List Mark)) (bs : List A) (after : Grid) : Type 0 where
   -- A cell that a beam hit ends stamped cloud.
-  pub hit_stamp : (i : ℕ) → i < cells h.extents → Hit marksOf bs i → (cell_at after i).stamp ≡ stamp_of (frame_opened h) true
+  pub hit_stamp : (i : ℕ) → i < cells h.extents → Hit marks_of bs i → (cell_at after i).stamp ≡ stamp_of (frame_opened h) true
   -- A cell that was touched, and that no beam hit, ends stamped clear.
-  pub clear_stamp : (i : ℕ) → i < cells h.extents → Touched marksOf bs i → ¬ Hit marksOf bs i
+  pub clear_stamp : (i : ℕ) → i < cells h.extents → Touched marks_of bs i → ¬ Hit marks_of bs i
       → (cell_at after i).stamp ≡ stamp_of (frame_opened h) false
   -- Any other cell keeps its odds, and its stamp as the sweep opened.
-  pub untouched : (i : ℕ) → i < cells h.extents → ¬ Touched marksOf bs i → cell_at after i ≡ cell_at (grid_opened h g) i
+  pub untouched : (i : ℕ) → i < cells h.extents → ¬ Touched marks_of bs i → cell_at after i ≡ cell_at (grid_opened h g) i
   -- A clear cell took one clear step.
-  pub clear-odds : (i : ℕ) → i < cells h.extents → Touched marksOf bs i → ¬ Hit marksOf bs i
+  pub clear-odds : (i : ℕ) → i < cells h.extents → Touched marks_of bs i → ¬ Hit marks_of bs i
       → (cell_at after i).odds ≡ freed f (steps_at h.model i) (get_or g.odds i nan)
   -- A cloud cell took the cloud step, with at most one clear step before it, taken back by the stated rule.
-  pub cloud-odds : (i : ℕ) → i < cells h.extents → Hit marksOf bs i
+  pub cloud-odds : (i : ℕ) → i < cells h.extents → Hit marks_of bs i
       → ((cell_at after i).odds ≡ cloud_alone f (steps_at h.model i) (get_or g.odds i nan))
       ⊎ ((cell_at after i).odds ≡ cloud_after_clear f (steps_at h.model i) (frame_opened h) (get_or g.odds i nan))
 

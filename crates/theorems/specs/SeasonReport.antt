@@ -21,7 +21,7 @@ season columns n run = add_charts_entry 0 (empty_report columns) n run
 pub record SeasonLaws : Type 0 where
   -- "Night by night equals all at once": where a first run was added, adding a second to what it left is adding both at
   -- once.
-  pub night-by-night : (charts : ℕ) (report : List ℕ) (n m k : ℕ) (first second : List ℕ) → (add_charts_entry charts report n first).answer ≡ given k
+  pub night_by_night : (charts : ℕ) (report : List ℕ) (n m k : ℕ) (first second : List ℕ) → (add_charts_entry charts report n first).answer ≡ given k
       → Alike (add_charts_entry charts report (n + m) (first ++ second)) (add_charts_entry k (add_charts_entry charts report n first).lent m second)
   -- What is added at once can be added in parts: its beginning is accepted too.
   pub beginning : (charts : ℕ) (report : List ℕ) (n m k : ℕ) (first second : List ℕ) → length first ≡ chart_width * report_columns (length report) * n
@@ -32,7 +32,7 @@ pub record SeasonLaws : Type 0 where
   -- "the report stays as it stood"
   pub nothing_added : (charts : ℕ) (report : List ℕ) (n : ℕ) (run : List ℕ) (r : Refusal) → (add_charts_entry charts report n run).answer ≡ refused r
       → (add_charts_entry charts report n run).lent ≡ report
-  pub nothing-joined : (charts : ℕ) (report : List ℕ) (more : ℕ) (other : List ℕ) (r : Refusal)
+  pub nothing_joined : (charts : ℕ) (report : List ℕ) (more : ℕ) (other : List ℕ) (r : Refusal)
       → (join_reports_entry charts report more other).answer ≡ refused r → (join_reports_entry charts report more other).lent ≡ report
   -- A map's chart is never refused as a chart.
   pub charts_are_good : (columns layers : ℕ) (ceiling : Float) (cuts : Cuts) (odds : List Float) (n : ℕ)

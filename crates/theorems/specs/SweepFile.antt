@@ -21,7 +21,7 @@ use Rattle.record_laws.specs.Words.{AreBytes, Are64}
 use Rattle.record_laws.specs.Fields.{begins_within}
 use Rattle.theorems.specs.SweepFile.Words.{Every, NoNanIn, Writable, IsSweep, IsBroken, mailed_by}
 use Rattle.theorems.specs.SweepFile.Written.{sweep_back}
-use Rattle.theorems.specs.SweepFile.Again.{sweep-again}
+use Rattle.theorems.specs.SweepFile.Again.{sweep_again}
 use Rattle.theorems.specs.SweepFile.Broken.{sweep-broken}
 use Rattle.theorems.specs.SweepFile.Entries.{list_of_beams, sweep_bytes_length, wrote, integrates}
 use Rattle.sweep_writer.proofs.Written.{beams_count}
@@ -38,13 +38,13 @@ written_then_read = sweep_back
 -- NaN is written alike.)
 pub read_then_written : (axes : ℕ) (bytes : List ℕ) (s : Sweep) → sweep_of axes bytes ≡ given s → AreBytes bytes → Every NoNanIn s.beams
     → sweep_bytes axes s.station s.beams ≡ bytes
-read_then_written = sweep-again
+read_then_written = sweep_again
 
 -- ---- "one encoding for each list of beams"
 -- Two files of the same station and beams, without a NaN, are the same bytes.
 pub one_encoding : (axes : ℕ) (bytes bytes' : List ℕ) (s : Sweep) → sweep_of axes bytes ≡ given s → sweep_of axes bytes' ≡ given s
     → AreBytes bytes → AreBytes bytes' → Every NoNanIn s.beams → bytes ≡ bytes'
-one_encoding axes bytes bytes' s e e' b b' n = sym (sweep-again axes bytes s e b n) ∙ sweep-again axes bytes' s e' b' n
+one_encoding axes bytes bytes' s e e' b b' n = sym (sweep_again axes bytes s e b n) ∙ sweep_again axes bytes' s e' b' n
 
 -- Two stations' beams that are written as the same bytes are the same beams of the same station, NaNs among them or
 -- not.
@@ -58,8 +58,8 @@ one_meaning axes station station' bs bs' w w' e =
     (ap (λ (t : Sweep). t.station) s, ap (λ (t : Sweep). t.beams) s)
 
 -- ---- all bytes
-one-offset : (o p : ℕ) → broken_sweep o ≡ broken_sweep p → o ≡ p
-one-offset o p e = let v : pos o ∷ [] ≡ pos p ∷ [] = ap (λ (r : Refusal). r.values) e in cc
+one_offset : (o p : ℕ) → broken_sweep o ≡ broken_sweep p → o ≡ p
+one_offset o p e = let v : pos o ∷ [] ≡ pos p ∷ [] = ap (λ (r : Refusal). r.values) e in cc
 
 -- Every list of numbers is a sweep file of so many axes, or it is refused at one offset, where a field begins, at most
 -- its end.
@@ -73,7 +73,7 @@ sweep_or_broken axes bytes = go (sweep_of axes bytes) refl
         inr (record {
           offset = b.offset;
           is = e ∙ ap refused (sym b.is);
-          only = λ o q. let z : broken_sweep o ≡ broken_sweep b.offset = cc b.is in one-offset o b.offset z;
+          only = λ o q. let z : broken_sweep o ≡ broken_sweep b.offset = cc b.is in one_offset o b.offset z;
           begins = b.begins;
           within = begins_within bytes b.offset b.begins;
         })

@@ -2,6 +2,7 @@
 // uses this one. Its functions change nothing: their contracts say that whatever a caller lends or hands over meets the
 // premises `AreBytes`, `Are64` and `Held` of the record's and the sweep file's theorems.
 #![tactic(auto)]
+
 ghost use Rattle.grid_map.specs.Heads.{head2, head3};
 ghost use Rattle.record_laws.specs.Words.{AreBytes, Is64, Are64, Held};
 

@@ -14,7 +14,7 @@ use Rattle.rules.specs.TheGridAndItsBounds.{Head, cells, strides, strides_from}
 use Rattle.rules.specs.Coordinates.{times_strides, flat_index}
 use Rattle.rules.specs.VerticalBeam.{Vertical, in_profile, column_place, column_marks}
 use Rattle.laws.specs.Checks.{Ready}
-use Rattle.laws.specs.Places.{place-lt}
+use Rattle.laws.specs.Places.{place_lt}
 use Rattle.laws.specs.Room.{room}
 use Rattle.beam.specs.Applying.{Applied, one}
 use Rattle.beam.proofs.Applying.{both_applied}
@@ -37,10 +37,10 @@ next_layer ex ey ez x y z =
 pub next_place : (ex ey ez x y z at : ℕ) → at ≡ column_place (ex ∷ ey ∷ ez ∷ []) x y z → at + ex * ey ≡ column_place (ex ∷ ey ∷ ez ∷ []) x y (suc z)
 next_place ex ey ez x y z at e = ap (λ (i : ℕ). i + ex * ey) e ∙ next_layer ex ey ez x y z
 
-pub place-below : (ex ey ez x y z at : ℕ) → at ≡ column_place (ex ∷ ey ∷ ez ∷ []) x y z → x < ex → y < ey → z < ez → at < cells (ex ∷ ey ∷ ez ∷ [])
-place-below ex ey ez x y z at e hx hy hz =
+pub place_below : (ex ey ez x y z at : ℕ) → at ≡ column_place (ex ∷ ey ∷ ez ∷ []) x y z → x < ex → y < ey → z < ez → at < cells (ex ∷ ey ∷ ez ∷ [])
+place_below ex ey ez x y z at e hx hy hz =
     subst (λ (i : ℕ). i < cells (ex ∷ ey ∷ ez ∷ [])) (sym e)
-    (place-lt (ex ∷ ey ∷ ez ∷ []) _ (column_place (ex ∷ ey ∷ ez ∷ []) x y z) refl (on-grid ex ey ez x y z hx hy hz))
+    (place_lt (ex ∷ ey ∷ ez ∷ []) _ (column_place (ex ∷ ey ∷ ez ∷ []) x y z) refl (on-grid ex ey ez x y z hx hy hz))
 
 pub place_is : (ex ey ez x y z at : ℕ) → x < ex → y < ey → z < ez
     → flat_index (ex ∷ ey ∷ ez ∷ []) (pos x ∷ pos y ∷ pos z ∷ []) ≡ given at

@@ -21,14 +21,14 @@ use Rattle.rules.specs.EditionTwo.{behind_row, grid_bytes, row_size, row_tried, 
 use Rattle.laws.specs.Checks.{passed}
 use Rattle.rows.proofs.Answers.{then_given}
 use Rattle.record_laws.specs.Words.{Is64, Are64, Held}
-use Rattle.record_laws.specs.Each.{each_take, each-drop}
+use Rattle.record_laws.specs.Each.{each_take, each_drop}
 use Rattle.record_laws.specs.Bytes.{little_endian_length, little_endian_back}
 use Rattle.record_laws.specs.Numbers.{extent_bytes_length, extents_back, floats_back, stamps_back}
 use Rattle.record_laws.specs.Fields.{sound_given, field_back}
-use Rattle.record_laws.specs.Rows.{row-length, rows_left, end_back}
+use Rattle.record_laws.specs.Rows.{row_length_lem, rows_left, end_back}
 use Rattle.record_laws.specs.Heads.{axes_few, extents_in_two_bytes, row_narrow, rows_are_cells, tests_of_lem}
 use Rattle.record_laws.specs.EditionTwo.Grids.{in_four_bytes}
-use Rattle.record_laws.specs.EditionTwo.Written.{stamps-row-length}
+use Rattle.record_laws.specs.EditionTwo.Written.{stamps_row_length}
 use Rattle.record_laws.specs.EditionTwo.BandsBack.{bands_back}
 
 -- ---- the rows
@@ -85,10 +85,10 @@ module _ {B : Type 0} (m : Model) (frame w : ℕ) (low : frame ≤ highest_frame
       let s = sound_given q (odds_in_bounds m row) tt (λ (t : Unit {0}). given tt) c.0 c.1 in
       let k : o + field_size (row_length w) + n * size ≡ o + suc n * size = omega (arith, suc-mul n size) in
       simp append_assoc
-      (field_back (row_field m w) _ (float_bytes row) left row o (row-length w g.odds r.0) narrow
+      (field_back (row_field m w) _ (float_bytes row) left row o (row_length_lem w g.odds r.0) narrow
       (floats_back row left w (length-take-le w g.odds r.0) (each_take Is64 nan w g.odds x)) s.0
       ∙ rows_back false n (λ gs. next (row_in false w g ∷ gs)) (o + field_size (row_length w)) (q + size) (behind_row w g) rest c.2 r.1
-      (λ h. let z : ◌≡◌ {A = ℕ} 0 1 = cc in absurd (omega arith)) (each-drop Is64 nan w g.odds x)
+      (λ h. let z : ◌≡◌ {A = ℕ} 0 1 = cc in absurd (omega arith)) (each_drop Is64 nan w g.odds x)
       ∙ ap (λ (at : ℕ). next (rows_in false w (suc n) g) at rest) k)
   rows_back true (suc n) next o q g rest t e f x =
       let size = row_size true w in
@@ -102,11 +102,11 @@ module _ {B : Type 0} (m : Model) (frame w : ℕ) (low : frame ≤ highest_frame
       let fit = sound_is (q + field_size (row_length w)) (none_above frame stamps) tt c.0 s.1 in
       let k : o + field_size (row_length w) + field_size (stamps_length w) + n * size ≡ o + suc n * size = omega (arith, suc-mul n size) in
       simp append_assoc
-      (field_back (row_field m w) _ (float_bytes row) _ row o (row-length w g.odds r.0) narrow
+      (field_back (row_field m w) _ (float_bytes row) _ row o (row_length_lem w g.odds r.0) narrow
       (floats_back row _ w (length-take-le w g.odds r.0) (each_take Is64 nan w g.odds x)) s.0
-      ∙ field_back (stamps_field frame w) _ (stamp_bytes stamps) left stamps _ (stamps-row-length w g.stamps l.0) (omega arith)
+      ∙ field_back (stamps_field frame w) _ (stamp_bytes stamps) left stamps _ (stamps_row_length w g.stamps l.0) (omega arith)
       (stamps_back stamps left w (length-take-le w g.stamps l.0) (in_four_bytes frame stamps low fit)) fit
-      ∙ rows_back true n (λ gs. next (row_in true w g ∷ gs)) _ (q + size) (behind_row w g) rest c.2 r.1 (λ h. l.1) (each-drop Is64 nan w g.odds x)
+      ∙ rows_back true n (λ gs. next (row_in true w g ∷ gs)) _ (q + size) (behind_row w g) rest c.2 r.1 (λ h. l.1) (each_drop Is64 nan w g.odds x)
       ∙ ap (λ (at : ℕ). next (rows_in true w (suc n) g) at rest) k)
 
 -- ---- the whole
@@ -173,4 +173,4 @@ edition_back h running g o cuts axes passes tried held =
     ∙ field_back frame_field _ (little_endian word_size h.frame) _ h.frame _ (little_endian_length word_size h.frame) (omega arith)
     (little_endian_back word_size h.frame _ (omega arith)) t.frame
     ∙ field_back open_field _ (open_byte running ∷ []) _ (open_byte running) _ refl (omega arith) (byte_back (open_byte running) _) (mark_sound running)
-    ∙ rows_and_end_back h running g o _ low (row_narrow es b.0) tried (t.count ∙ one_each) (λ e. each-stamp (rw e tt) ∙ one_each) held.each-odds)
+    ∙ rows_and_end_back h running g o _ low (row_narrow es b.0) tried (t.count ∙ one_each) (λ e. each-stamp (rw e tt) ∙ one_each) held.each_odds)

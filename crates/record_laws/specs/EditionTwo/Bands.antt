@@ -14,9 +14,9 @@ use Rattle.rules.specs.Fields.{float_bytes, floats_in, head_size, field_size, fi
 use Rattle.rules.specs.MapRecord.{extent_bytes, extents_in, model_tag, model_length, model_bytes, model_field, same_bits}
 use Rattle.rules.specs.EditionTwo.{pair_field, cuts_tag, cuts_length, cuts_field, bands_over, pairs_bytes, cuts_of, cuts_bytes, bands_bytes, bands_then, bands_size}
 use Rattle.record_laws.specs.Words.{IsByte, AreBytes, Is64, HeldBands, LaidOn}
-use Rattle.record_laws.specs.Each.{each-drop, both}
+use Rattle.record_laws.specs.Each.{each_drop, both}
 use Rattle.record_laws.specs.Numbers.{extents_in_length, extents_again, floats_in_length, floats_in_64, floats_again, same_float}
-use Rattle.record_laws.specs.Fields.{Found, field-again, field_given}
+use Rattle.record_laws.specs.Fields.{Found, field_again, field_given}
 use Rattle.record_laws.specs.Back.{lowest_bounded}
 use Rattle.record_laws.specs.Read.{model-not-nan}
 use Rattle.record_laws.specs.EditionTwo.Parts.{AllHave, PartPassed, parts_given}
@@ -35,16 +35,16 @@ model-held rest =
     let three = floats_in_length 3 b in
     record { occupied = at 0 (omega arith); free = at 1 (omega arith); ceiling = at 2 (omega arith) }
 
-pub model-again : (rest : List ℕ) → AreBytes rest → Found model_tag model_length rest → bounded (contents model_field rest) ≡ true
+pub model_again : (rest : List ℕ) → AreBytes rest → Found model_tag model_length rest → bounded (contents model_field rest) ≡ true
     → field model_tag (model_bytes (contents model_field rest)) ++ drop (field_size model_length) rest ≡ rest
 unfolding floats_in
-model-again rest b f sound =
+model_again rest b f sound =
     let m = contents model_field rest in
     let l = f.whole in
     ap (λ (x : List ℕ). field model_tag x ++ drop (field_size model_length) rest)
-    (floats_again 3 (drop head_size rest) (each-drop IsByte 0 head_size rest b) (omega (arith, length-drop head_size rest))
+    (floats_again 3 (drop head_size rest) (each_drop IsByte 0 head_size rest b) (omega (arith, length-drop head_size rest))
     (model-not-nan m.lowest m.ceiling sound))
-    ∙ field-again model_tag model_length rest b f
+    ∙ field_again model_tag model_length rest b f
 
 -- ---- the pairs above the lowest, with the ceiling of the lowest
 module _ (c : Float) (held : Is64 c) where
@@ -104,8 +104,8 @@ module _ (c : Float) (held : Is64 c) where
       let j : size + length ms * size ≡ suc (length ms) * size = omega (arith, suc-mul (length ms) size) in
       let sound : bounded (contents model_field rest) ≡ true = ap bounded x.is ∙ x.sound in
       rw (append_assoc, sym j, sym (drop-drop (length ms * size) size rest))
-      (ap₂ (λ (y z : List ℕ). field model_tag y ++ z) numbers (pairs_again_lem (drop size rest) cuts ms (omega arith) h.2 (each-drop IsByte 0 size rest b))
-      ∙ model-again rest b x.found sound)
+      (ap₂ (λ (y z : List ℕ). field model_tag y ++ z) numbers (pairs_again_lem (drop size rest) cuts ms (omega arith) h.2 (each_drop IsByte 0 size rest b))
+      ∙ model_again rest b x.found sound)
 
 -- ---- the cuts
 over_length : (cuts : List ℕ) (ms : List Model) → length cuts ≡ length ms → length (bands_over cuts ms) ≡ length cuts
@@ -157,7 +157,7 @@ one-pair es rest f sound =
       held = model-held rest;
       above = tt;
       layer = refl;
-      again = λ b. simp append_assoc (model-again rest b f sound);
+      again = λ b. simp append_assoc (model_again rest b f sound);
     }
 
 -- the bytes behind the lowest pair, and behind all
@@ -211,8 +211,8 @@ pairs_and_cuts n es rest ms f sound many all g fit =
 
     written : AreBytes rest → bands_bytes (model_in n es rest ms) ++ drop (bands_size (suc n)) rest ≡ rest
     written b =
-        let b₁ = each-drop IsByte 0 (field_size model_length) rest b in
-        let b₂ = each-drop IsByte 0 (suc n * field_size model_length) (behind_lowest rest) b₁ in
+        let b₁ = each_drop IsByte 0 (field_size model_length) rest b in
+        let b₂ = each_drop IsByte 0 (suc n * field_size model_length) (behind_lowest rest) b₁ in
         let l = g.whole in
         unfold bands_bytes in
         simp append_assoc
@@ -220,14 +220,14 @@ pairs_and_cuts n es rest ms f sound many all g fit =
         (ap₂ (λ (x y : List ℕ). pairs_bytes (contents model_field rest).ceiling (bands_over cuts ms) ++ (x ++ y))
         (cuts_bytes_lem (bands_over cuts ms) some
         ∙ ap (λ (x : List ℕ). field cuts_tag (extent_bytes x)) (over_cuts cuts ms as_many)
-        ∙ ap (field cuts_tag) (extents_again (suc n) (drop head_size (behind_pairs n rest)) (each-drop IsByte 0 head_size (behind_pairs n rest) b₂)
+        ∙ ap (field cuts_tag) (extents_again (suc n) (drop head_size (behind_pairs n rest)) (each_drop IsByte 0 head_size (behind_pairs n rest) b₂)
         (omega (arith, length-drop head_size (behind_pairs n rest)))))
         (sym (behind-cuts n rest))
         ∙ ap (λ (x : List ℕ). pairs_bytes (contents model_field rest).ceiling (bands_over cuts ms) ++ x)
-        (field-again cuts_tag (cuts_length (suc n)) (behind_pairs n rest) b₂ g)
+        (field_again cuts_tag (cuts_length (suc n)) (behind_pairs n rest) b₂ g)
         ∙ ap (λ (k : ℕ). pairs_bytes (contents model_field rest).ceiling (bands_over cuts ms) ++ drop (k * field_size model_length) (behind_lowest rest)) (sym many)
         ∙ pairs_again_lem (contents model_field rest).ceiling held (behind_lowest rest) cuts ms as_many all b₁)
-        ∙ model-again rest b f sound)
+        ∙ model_again rest b f sound)
 
 pub bands_given : {B : Type 0} (n : ℕ) (es : List ℕ) (next : Model → Reading B) (o : ℕ) (rest : List ℕ) (b : B) → bands_then n es next o rest ≡ given b
     → BandsPassed n es next o rest b

@@ -17,9 +17,9 @@ use Rattle.rules.specs.Fields.{float_bytes, floats_in, head_size, field_size, fi
 use Rattle.rules.specs.MapRecord.{row_tag, row_length, row_field, odds_in_bounds}
 use Rattle.rules.specs.EditionTwo.{stamps_tag, stamps_length, stamp_bytes, stamps_in, none_above, stamps_field, grid_bytes, row_then, grid_of_rows, row_size, grid_tried}
 use Rattle.record_laws.specs.Words.{Each, IsByte, AreBytes, Is64, Are64, NotNan, NoNan}
-use Rattle.record_laws.specs.Each.{each_nil, each_cons, each-drop, each_append, both}
-use Rattle.record_laws.specs.Numbers.{floats_in_length, floats_in_64, floats_again, InFourBytes, stamps_in_length, stamps-again}
-use Rattle.record_laws.specs.Fields.{Found, field-again, field_given}
+use Rattle.record_laws.specs.Each.{each_nil, each_cons, each_drop, each_append, both}
+use Rattle.record_laws.specs.Numbers.{floats_in_length, floats_in_64, floats_again, InFourBytes, stamps_in_length, stamps_again}
+use Rattle.record_laws.specs.Fields.{Found, field_again, field_given}
 use Rattle.record_laws.specs.Rows.{bounds_no_nan}
 use Rattle.record_laws.specs.EditionTwo.Parts.{AllHave, all_whole, PartPassed}
 
@@ -55,22 +55,22 @@ module _ (m : Model) (frame w : ℕ) where
     pub again : AreBytes rest
         → field row_tag (float_bytes g.odds) ++ (cond running (field stamps_tag (stamp_bytes g.stamps)) [] ++ drop (row_size running w) rest) ≡ rest
 
-  odds-again : (rest : List ℕ) → Found row_tag (row_length w) rest → odds_in_bounds m (floats_in w (drop head_size rest)) ≡ true → AreBytes rest
+  odds_again : (rest : List ℕ) → Found row_tag (row_length w) rest → odds_in_bounds m (floats_in w (drop head_size rest)) ≡ true → AreBytes rest
       → field row_tag (float_bytes (floats_in w (drop head_size rest))) ++ drop (field_size (row_length w)) rest ≡ rest
-  odds-again rest f sound b =
+  odds_again rest f sound b =
       let l = f.whole in
       ap (λ (x : List ℕ). field row_tag x ++ drop (field_size (row_length w)) rest)
-      (floats_again w (drop head_size rest) (each-drop IsByte 0 head_size rest b) (omega (arith, length-drop head_size rest))
+      (floats_again w (drop head_size rest) (each_drop IsByte 0 head_size rest b) (omega (arith, length-drop head_size rest))
       (bounds_no_nan m (floats_in w (drop head_size rest)) sound))
-      ∙ field-again row_tag (row_length w) rest b f
+      ∙ field_again row_tag (row_length w) rest b f
 
-  stamps-row-again : (rest : List ℕ) → Found stamps_tag (stamps_length w) rest → AreBytes rest
+  stamps_row_again : (rest : List ℕ) → Found stamps_tag (stamps_length w) rest → AreBytes rest
       → field stamps_tag (stamp_bytes (stamps_in w (drop head_size rest))) ++ drop (field_size (stamps_length w)) rest ≡ rest
-  stamps-row-again rest f b =
+  stamps_row_again rest f b =
       let l = f.whole in
       ap (λ (x : List ℕ). field stamps_tag x ++ drop (field_size (stamps_length w)) rest)
-      (stamps-again w (drop head_size rest) (each-drop IsByte 0 head_size rest b) (omega (arith, length-drop head_size rest)))
-      ∙ field-again stamps_tag (stamps_length w) rest b f
+      (stamps_again w (drop head_size rest) (each_drop IsByte 0 head_size rest b) (omega (arith, length-drop head_size rest)))
+      ∙ field_again stamps_tag (stamps_length w) rest b f
 
   pub row_given : {B : Type 0} (running : Bool) (next : Grid → Reading B) (o : ℕ) (rest : List ℕ) (b : B) → row_then running m frame w next o rest ≡ given b
       → PartPassed (row_size running w) (RowRead running) (row_then running m frame w) next o rest b
@@ -87,7 +87,7 @@ module _ (m : Model) (frame w : ℕ) where
           stamps-length = λ h. let z : ◌≡◌ {A = ℕ} 0 1 = cc in absurd (omega arith);
           stamps_sound = λ h. let z : ◌≡◌ {A = ℕ} 0 1 = cc in absurd (omega arith);
           held = floats_in_64 w (drop head_size rest);
-          again = λ b. rw k (odds-again rest p.is_found p.is_sound b);
+          again = λ b. rw k (odds_again rest p.is_found p.is_sound b);
         };
         after = rw k p.after;
       }
@@ -113,8 +113,8 @@ module _ (m : Model) (frame w : ℕ) where
           stamps_sound = λ h. q.is_sound;
           held = floats_in_64 w (drop head_size rest);
           again = λ b. rw (sym behind)
-              (ap (λ (x : List ℕ). field row_tag (float_bytes odds) ++ x) (stamps-row-again left q.is_found (each-drop IsByte 0 row rest b))
-              ∙ odds-again rest p.is_found p.is_sound b);
+              (ap (λ (x : List ℕ). field row_tag (float_bytes odds) ++ x) (stamps_row_again left q.is_found (each_drop IsByte 0 row rest b))
+              ∙ odds_again rest p.is_found p.is_sound b);
         };
         after = sym (ap₂ (next g) k behind) ∙ q.after;
       }
@@ -192,7 +192,7 @@ module _ (m : Model) (frame w : ℕ) where
       )
       (simp append_assoc
       (ap (λ (x : List ℕ). field row_tag (float_bytes g.odds) ++ x)
-      (rows_again false (drop size rest) gs (drop w others) h.2 (each-drop IsByte 0 size rest b))
+      (rows_again false (drop size rest) gs (drop w others) h.2 (each_drop IsByte 0 size rest b))
       ∙ h.1.again b))
   rows_again true rest (g ∷ gs) others h b =
       let size = row_size true w in
@@ -208,7 +208,7 @@ module _ (m : Model) (frame w : ℕ) where
       )
       (simp append_assoc
       (ap (λ (x : List ℕ). field row_tag (float_bytes g.odds) ++ (field stamps_tag (stamp_bytes g.stamps) ++ x))
-      (rows_again true (drop size rest) gs others h.2 (each-drop IsByte 0 size rest b))
+      (rows_again true (drop size rest) gs others h.2 (each_drop IsByte 0 size rest b))
       ∙ h.1.again b))
 
   -- what is known of the lists that so many rows give, as the record keeps them

@@ -13,10 +13,10 @@ use Rattle.rules.specs.MapRecord.{extents_tag, extents_length, extents_field, fr
 use Rattle.rules.specs.EditionTwo.{byte_length, edition_tag, edition_two, edition_field, cuts_for, open_tag, open_byte, open_field, marks_running, bands_size, bands_bytes}
 use Rattle.rules.specs.EditionTwo.{row_then, row_size, grid_of_rows, grid_bytes, edition_bytes, Kept, kept, rows_and_end, edition_of, grid_offset, edition_size, edition_room, edition_writable}
 use Rattle.record_laws.specs.Words.{IsByte, AreBytes, Held}
-use Rattle.record_laws.specs.Each.{each-drop}
+use Rattle.record_laws.specs.Each.{each_drop}
 use Rattle.record_laws.specs.Bytes.{little_endian_again}
 use Rattle.record_laws.specs.Numbers.{extents_in_length, extents_again}
-use Rattle.record_laws.specs.Fields.{Found, field-again, field_given}
+use Rattle.record_laws.specs.Fields.{Found, field_again, field_given}
 use Rattle.record_laws.specs.Rows.{EndRead, end_given}
 use Rattle.record_laws.specs.Heads.{rows_are_cells, tests_of_lem, edition_passes}
 use Rattle.record_laws.specs.EditionTwo.Words.{SoundEdition}
@@ -34,8 +34,8 @@ byte_again tag v rest f is l b =
     ap (λ (x : List ℕ). field tag x ++ drop (field_size byte_length) rest)
     (one
     ∙ ap (little_endian 1) (sym is)
-    ∙ little_endian_again 1 (drop head_size rest) (each-drop IsByte 0 head_size rest b) (omega (arith, length-drop head_size rest)))
-    ∙ field-again tag byte_length rest b f
+    ∙ little_endian_again 1 (drop head_size rest) (each_drop IsByte 0 head_size rest b) (omega (arith, length-drop head_size rest)))
+    ∙ field_again tag byte_length rest b f
 
 -- the mark that was read is the byte that is written for it
 mark_is : (n : ℕ) → leb n 1 ≡ true → open_byte (marks_running n) ≡ n
@@ -135,12 +135,12 @@ parts_again axes bytes k p b =
     let rest₃ = behind_bands axes bytes in
     let rest₄ = behind_frame axes bytes in
     let rest₅ = behind_mark axes bytes in
-    let b₁ = each-drop IsByte 0 (field_size byte_length) bytes b in
-    let b₂ = each-drop IsByte 0 (field_size (extents_length axes)) rest₁ b₁ in
-    let b₃ = each-drop IsByte 0 (bands_size (cuts_for axes)) rest₂ b₂ in
-    let b₄ = each-drop IsByte 0 (field_size frame_length) rest₃ b₃ in
-    let b₅ = each-drop IsByte 0 (field_size byte_length) rest₄ b₄ in
-    let b₆ = each-drop IsByte 0 (rows_size axes bytes) rest₅ b₅ in
+    let b₁ = each_drop IsByte 0 (field_size byte_length) bytes b in
+    let b₂ = each_drop IsByte 0 (field_size (extents_length axes)) rest₁ b₁ in
+    let b₃ = each_drop IsByte 0 (bands_size (cuts_for axes)) rest₂ b₂ in
+    let b₄ = each_drop IsByte 0 (field_size frame_length) rest₃ b₃ in
+    let b₅ = each_drop IsByte 0 (field_size byte_length) rest₄ b₄ in
+    let b₆ = each_drop IsByte 0 (rows_size axes bytes) rest₅ b₅ in
     let i = p.extents_found.whole in
     let j = p.frame_found.whole in
     let n = contents open_field rest₄ in
@@ -149,24 +149,24 @@ parts_again axes bytes k p b =
     simp append_assoc
     (ap (λ (x : List ℕ). field edition_tag (edition_two ∷ []) ++ x)
     (ap₂ (λ (x y : List ℕ). field extents_tag x ++ y)
-    (extents_again axes (drop head_size rest₁) (each-drop IsByte 0 head_size rest₁ b₁) (omega (arith, length-drop head_size rest₁)))
+    (extents_again axes (drop head_size rest₁) (each_drop IsByte 0 head_size rest₁ b₁) (omega (arith, length-drop head_size rest₁)))
     (ap (λ (x : List ℕ). bands_bytes p.model ++ x)
     (ap₂ (λ (x y : List ℕ). field frame_tag x ++ y)
-    (little_endian_again word_size (drop head_size rest₃) (each-drop IsByte 0 head_size rest₃ b₃) (omega (arith, length-drop head_size rest₃)))
+    (little_endian_again word_size (drop head_size rest₃) (each_drop IsByte 0 head_size rest₃ b₃) (omega (arith, length-drop head_size rest₃)))
     (ap (λ (x : List ℕ). field open_tag (open_byte (running_at axes bytes) ∷ []) ++ x)
     (ap (λ (x : List ℕ). grid_bytes (running_at axes bytes) (row_width (extents_at axes bytes)) (row_count (extents_at axes bytes)) p.grid ++ x) (p.end.again b₆)
     ∙ p.rows.again b₅)
     ∙ byte_again open_tag (open_byte (running_at axes bytes)) rest₄ p.mark_found (sym mark) (omega arith) b₄)
-    ∙ field-again frame_tag frame_length rest₃ b₃ p.frame_found)
+    ∙ field_again frame_tag frame_length rest₃ b₃ p.frame_found)
     ∙ p.bands.again b₂)
-    ∙ field-again extents_tag (extents_length axes) rest₁ b₁ p.extents_found)
+    ∙ field_again extents_tag (extents_length axes) rest₁ b₁ p.extents_found)
     ∙ byte_again edition_tag edition_two bytes p.edition_found p.edition_is (omega arith) b)
 
 -- A map that was read from a record of edition 2 is written as the same bytes, with the mark that was read. (A closed
 -- record has no rows of stamps: the zeros that reading gives for them are not written.)
-pub edition-again : (axes : ℕ) (bytes : List ℕ) (k : Kept) → edition_of axes bytes ≡ given k → AreBytes bytes
+pub edition_again : (axes : ℕ) (bytes : List ℕ) (k : Kept) → edition_of axes bytes ≡ given k → AreBytes bytes
     → edition_bytes k.head k.running k.grid ≡ bytes
-edition-again axes bytes k e b =
+edition_again axes bytes k e b =
     let p = parts axes bytes k e in
     subst (λ (x : Kept). edition_bytes x.head x.running x.grid ≡ bytes) p.end.is (parts_again axes bytes k p b)
 
@@ -194,7 +194,7 @@ module _ (axes : ℕ) (bytes : List ℕ) (k : Kept) (p : Parts axes bytes k) whe
   held_of : Held (head_at axes bytes p.model) p.grid.odds
   held_of =
       let h = p.bands.held in
-      record { occupied = h.occupied; free = h.free; ceiling = h.ceiling; above = p.bands.above; layer = p.bands.layer; each-odds = p.rows.held }
+      record { occupied = h.occupied; free = h.free; ceiling = h.ceiling; above = p.bands.above; layer = p.bands.layer; each_odds = p.rows.held }
 
   sound_of : 0 < axes → SoundEdition axes bytes (record { head = head_at axes bytes p.model; running = running_at axes bytes; grid = p.grid })
   sound_of some-axis =

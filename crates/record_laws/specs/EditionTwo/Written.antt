@@ -13,7 +13,7 @@ use Rattle.laws.specs.Checks.{passed}
 use Rattle.record_laws.specs.Bytes.{little_endian_length}
 use Rattle.record_laws.specs.Numbers.{extent_bytes_length, float_bytes_length, stamp_bytes_length}
 use Rattle.record_laws.specs.Fields.{field-length}
-use Rattle.record_laws.specs.Rows.{row-length, rows_left}
+use Rattle.record_laws.specs.Rows.{row_length_lem, rows_left}
 use Rattle.record_laws.specs.Heads.{rows_are_cells}
 use Rattle.record_laws.specs.Back.{model_floats}
 
@@ -54,8 +54,8 @@ bands-length n m e =
     ∙ cuts-length n m.above e
 
 -- ---- the rows
-pub stamps-row-length : (w : ℕ) (ss : List ℕ) → w ≤ length ss → length (stamp_bytes (take w ss)) ≡ stamps_length w
-stamps-row-length w ss l = stamp_bytes_length (take w ss) ∙ ap (λ (k : ℕ). 4 * k) (length-take-le w ss l)
+pub stamps_row_length : (w : ℕ) (ss : List ℕ) → w ≤ length ss → length (stamp_bytes (take w ss)) ≡ stamps_length w
+stamps_row_length w ss l = stamp_bytes_length (take w ss) ∙ ap (λ (k : ℕ). 4 * k) (length-take-le w ss l)
 
 pub grid-length : (running : Bool) (w n : ℕ) (g : Grid) → length g.odds ≡ n * w → (running ≡ true → length g.stamps ≡ n * w)
     → length (grid_bytes running w n g) ≡ n * row_size running w
@@ -66,7 +66,7 @@ grid-length false w (suc n) g e f =
     let row = field row_tag (float_bytes (take w g.odds)) in
     length-append (row ++ []) (grid_bytes false w n (behind_row w g))
     ∙ ap₂ ◌+◌
-    (length-append row [] ∙ ap (λ (k : ℕ). k + 0) (field-length row_tag (float_bytes (take w g.odds)) ∙ ap field_size (row-length w g.odds r.0)))
+    (length-append row [] ∙ ap (λ (k : ℕ). k + 0) (field-length row_tag (float_bytes (take w g.odds)) ∙ ap field_size (row_length_lem w g.odds r.0)))
     (grid-length false w n (behind_row w g) r.1 (λ h. let z : ◌≡◌ {A = ℕ} 0 1 = cc in absurd (omega arith)))
     ∙ sym (suc-mul n (row_size false w) ∙ omega arith)
 grid-length true w (suc n) g e f =
@@ -77,8 +77,8 @@ grid-length true w (suc n) g e f =
     length-append (row ++ behind) (grid_bytes true w n (behind_row w g))
     ∙ ap₂ ◌+◌
     (length-append row behind
-    ∙ ap₂ ◌+◌ (field-length row_tag (float_bytes (take w g.odds)) ∙ ap field_size (row-length w g.odds r.0))
-    (field-length stamps_tag (stamp_bytes (take w g.stamps)) ∙ ap field_size (stamps-row-length w g.stamps s.0)))
+    ∙ ap₂ ◌+◌ (field-length row_tag (float_bytes (take w g.odds)) ∙ ap field_size (row_length_lem w g.odds r.0))
+    (field-length stamps_tag (stamp_bytes (take w g.stamps)) ∙ ap field_size (stamps_row_length w g.stamps s.0)))
     (grid-length true w n (behind_row w g) r.1 (λ h. s.1))
     ∙ sym (suc-mul n (row_size true w) ∙ omega arith)
 

@@ -4,7 +4,7 @@ use Rattle.std.specs.Prelude.{ℕ, List, [], ◌∷◌, ◌++◌, map, ◌≡◌
 use Rattle.std.specs.Float.{nan, binary64}
 use Rattle.rules.specs.RefusalNumbers.{given, refused}
 use Rattle.rules.specs.RefusalNumbers.{dimension_too_small, capacity_overflow, bad_model, bad_buffer}
-use Rattle.rules.specs.RefusalNumbers.{out_of_bounds, non_finite_coordinate, bad_beams, bad_frame, broken_record, no_room, odds_not_aNumber}
+use Rattle.rules.specs.RefusalNumbers.{out_of_bounds, non_finite_coordinate, bad_beams, bad_frame, broken_record, no_room, odds_not_a_number}
 use Rattle.rules.specs.Floats.{zero_f, half_f, one_f}
 use Rattle.rules.specs.TheGridAndItsBounds.{Model, plain_model, Head, Grid}
 use Rattle.rules.specs.Coordinates.{flat_index, cell_containing}
@@ -89,7 +89,7 @@ pub record AddedAnswers : Type 0 where
   pub nan_written : write_record_entry (head_of 2 2 2) (nan ∷ zero_f ∷ zero_f ∷ zero_f ∷ []) [] ≡ record { answer = refused (broken_record 41); lent = [] }
   pub bounds_read : reading (record_bytes (head_of 2 2 2) at_bounds) ≡ record { answer = given (head_of 2 2 2); lent = lent at_bounds }
   -- the checked setter: NaN is refused with 13, after 5; else it sets as `set_log_odds` does
-  pub nan-set : set_log_odds_checked_entry (head_of 2 2 2) (pos 0 ∷ pos 0 ∷ []) nan up_to3 ≡ record { answer = refused odds_not_aNumber; lent = up_to3 }
+  pub nan-set : set_log_odds_checked_entry (head_of 2 2 2) (pos 0 ∷ pos 0 ∷ []) nan up_to3 ≡ record { answer = refused odds_not_a_number; lent = up_to3 }
   pub off_grid_before_nan : set_log_odds_checked_entry (head_of 2 2 2) (pos 0 ∷ pos 2 ∷ []) nan up_to3 ≡ record { answer = refused (out_of_bounds 1 (pos 2) 2 2); lent = up_to3 }
   pub number_set :
       set_log_odds_checked_entry (head_of 2 2 2) (pos 0 ∷ pos 0 ∷ []) (plus 9 1) up_to3

@@ -89,8 +89,8 @@ pub record EditionMoves : Type 0 where
   -- odds and stamps at their rows, the smallest offset first, before the room
   pub odds-first : writing true first_row_high (0 ∷ 518 ∷ 516 ∷ 3 ∷ []) 0 ≡ stays (broken_record 49) 0
   pub stamps_next : writing true second_row_high (0 ∷ 518 ∷ 516 ∷ 3 ∷ []) 0 ≡ stays (broken_record 68) 0
-  pub later-odds : writing true second_row_high (0 ∷ 517 ∷ 518 ∷ 3 ∷ []) 0 ≡ stays (broken_record 79) 0
-  pub later-stamps : writing true up_to3 (0 ∷ 517 ∷ 518 ∷ 3 ∷ []) 0 ≡ stays (broken_record 98) 0
+  pub later_odds : writing true second_row_high (0 ∷ 517 ∷ 518 ∷ 3 ∷ []) 0 ≡ stays (broken_record 79) 0
+  pub later_stamps : writing true up_to3 (0 ∷ 517 ∷ 518 ∷ 3 ∷ []) 0 ≡ stays (broken_record 98) 0
   pub closed_later_odds : writing false second_row_high [] 0 ≡ stays (broken_record 68) 0
   pub solid_last_odds : writing_solid banded_head true last_odds_high 0 ≡ stays (broken_record 262) 0
   pub solid_last_stamps : writing_solid banded_head true last_stamp_high 0 ≡ stays (broken_record 281) 0
@@ -151,8 +151,8 @@ edition_moves =
       open_solid_short = refl;
       odds-first = refl;
       stamps_next = refl;
-      later-odds = refl;
-      later-stamps = refl;
+      later_odds = refl;
+      later_stamps = refl;
       closed_later_odds = refl;
       solid_last_odds = refl;
       solid_last_stamps = refl;

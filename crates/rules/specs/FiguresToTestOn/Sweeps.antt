@@ -49,7 +49,7 @@ pub record SweepAnswers : Type 0 where
   -- the beams in their order: the first marks a cell as cloud, the second another as clear
   pub both_beams : (integrating file).answer ≡ given (record { station = 513; count = 2 })
   -- a NaN is legal in the file, meets 7 at its place, and the beam before it stays
-  pub not_a_number : (integrating with_na_n).answer ≡ refused (ray_in_list 1 1)
+  pub not_a_number_lem : (integrating with_na_n).answer ≡ refused (ray_in_list 1 1)
   pub frame_before_file : (update_sweep_entry binary64 (head_of 2 2 0) [] (fresh 2 2)).answer ≡ refused bad_frame
   -- writing: a bad list before the room; the rest of what was lent stays
   pub list_before_room : (write_sweep_entry 2 513 (half_f ∷ []) [] []).answer ≡ refused bad_beams
@@ -71,7 +71,7 @@ sweep_answers =
       another_count = refl;
       bytes_after_the_end = refl;
       both_beams = refl;
-      not_a_number = refl;
+      not_a_number_lem = refl;
       frame_before_file = refl;
       list_before_room = refl;
       no_room_lem = refl;

@@ -6,7 +6,7 @@ use Rattle.std.proofs.Math.Option.{Option, some, none}
 use Rattle.std.specs.Float.{nan, Format}
 use Rattle.std.specs.Float.Ieee.{is_nan}
 use Rattle.rules.specs.RefusalNumbers.{Refusal, Answer, given, refused, and_then}
-use Rattle.rules.specs.RefusalNumbers.{dimension_too_small, capacity_overflow, bad_model, bad_cuts, bad_buffer, bad_beams, bad_frame, odds_not_aNumber}
+use Rattle.rules.specs.RefusalNumbers.{dimension_too_small, capacity_overflow, bad_model, bad_cuts, bad_buffer, bad_beams, bad_frame, odds_not_a_number}
 use Rattle.rules.specs.TheGridAndItsBounds.{Model, Head, Grid, least_extent, fits_capacity, bounded, cuts_in_bounds, one_per_cell, fresh_grid, fresh_frame}
 use Rattle.rules.specs.Coordinates.{Sample, flat_index, cell_containing, sample}
 use Rattle.rules.specs.MarksAndFrames.{Mark, mark_at, with_cell, set_odds, opened_frame, opened_stamps, open_frame}
@@ -149,7 +149,7 @@ set_log_odds_entry h cell x odds =
 abbrev pub checked_answer : Model → Float → List Float → Answer ℕ → Outcome (Unit {0}) (List Float)
 checked_answer m x odds (refused r) = record { answer = refused r; lent = odds }
 checked_answer m x odds (given i) =
-    cond (is_nan x) (record { answer = refused odds_not_aNumber; lent = odds }) (record { answer = given tt; lent = set_odds m i x odds })
+    cond (is_nan x) (record { answer = refused odds_not_a_number; lent = odds }) (record { answer = given tt; lent = set_odds m i x odds })
 
 unfoldable pub set_log_odds_checked_entry : Head → List ℤ → Float → List Float → Outcome (Unit {0}) (List Float)
 set_log_odds_checked_entry h cell x odds =

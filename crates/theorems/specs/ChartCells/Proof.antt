@@ -13,7 +13,7 @@ use Rattle.rules.specs.Coordinates.{along, on_grid_from, off_axes, times_strides
 use Rattle.rules.specs.MarksAndFrames.{steps_at, steps_with}
 use Rattle.rules.specs.LayerChart.{Cuts, cuts_in, stacked, cells_between, column_chart}
 use Rattle.laws.specs.Floats.Tests.{order}
-use Rattle.laws.specs.Places.{place-lt}
+use Rattle.laws.specs.Places.{place_lt}
 use Rattle.theorems.specs.ChartCells.{OnGrid, column_of, Layer, low, middle, high, from_of, to_of, InBand, Banded, pair_of, OneCell, SomeBand, KnowsThePromises}
 
 -- ---- the index rule
@@ -43,11 +43,11 @@ raised s [] top (n ∷ ns) z p = absurd p
 raised s (e ∷ es) top [] z p = absurd p
 raised s (e ∷ es) top (n ∷ ns) z p = omega (arith, raised (s * e) es top ns z p.1, ap (λ (n : ℕ). z * n) (mul_assoc s e (cells es)))
 
-layer-cells : (es : List ℕ) (top : ℕ) → layer_of (es ++ top ∷ []) ≡ cells es
+layer_cells : (es : List ℕ) (top : ℕ) → layer_of (es ++ top ∷ []) ≡ cells es
 unfolding layer_of cells
-layer-cells [] top = refl
-layer-cells (e ∷ []) top = refl
-layer-cells (e ∷ d ∷ es) top = ap (λ (n : ℕ). e * n) (layer-cells (d ∷ es) top)
+layer_cells [] top = refl
+layer_cells (e ∷ []) top = refl
+layer_cells (e ∷ d ∷ es) top = ap (λ (n : ℕ). e * n) (layer_cells (d ∷ es) top)
 
 last-top : (es : List ℕ) (top : ℕ) → last_extent (es ++ top ∷ []) ≡ top
 unfolding last_extent
@@ -62,7 +62,7 @@ counts (e ∷ es) [] p = absurd p
 counts (e ∷ es) (n ∷ ns) p = ap suc (counts es ns p.1)
 
 column-below : (es ns : List ℕ) → OnGrid es ns → column_of es ns < cells es
-column-below es ns p = place-lt es (map pos ns) (column_of es ns) (counts es ns p) (indexed es ns p)
+column-below es ns p = place_lt es (map pos ns) (column_of es ns) (counts es ns p) (indexed es ns p)
 
 -- ---- what the chart takes
 stacked-at : (apart : ℕ) (odds : List Float) (n place i : ℕ) → i < n → get_or (stacked apart odds n place) i nan ≡ get_or odds (place + i * apart) nan
@@ -90,15 +90,15 @@ between-at apart odds column from to z h g =
     up = omega (arith, sym (add-mul from (z - from) apart) ∙ ap (λ (k : ℕ). k * apart) whole)
 
 -- ---- bands
-height-of : (column z layer : ℕ) → column < layer → (column + z * layer) / layer ≡ z
-height-of column z layer h = add-mul-div_right column z (omega arith) ∙ ap (λ (k : ℕ). k + z) (div-eq_of_lt h) ∙ zero-add z
+height_of : (column z layer : ℕ) → column < layer → (column + z * layer) / layer ≡ z
+height_of column z layer h = add-mul-div_right column z (omega arith) ∙ ap (λ (k : ℕ). k + z) (div-eq_of_lt h) ∙ zero-add z
 
-pair-in : (p : Pair) (b c : Band) (top z : ℕ) (l : Layer) → b.cut < c.cut → InBand (record { first = b.cut; second = c.cut }) top l z
+pair_in : (p : Pair) (b c : Band) (top z : ℕ) (l : Layer) → b.cut < c.cut → InBand (record { first = b.cut; second = c.cut }) top l z
     → pair_at z p (b ∷ c ∷ []) ≡ pair_of p b c l
 unfolding pair_at
-pair-in p b c top z low r h = rw (lt-ltb z b.cut h.1) refl
-pair-in p b c top z middle r h = rw (le-ltb z b.cut h.0, lt-ltb z c.cut h.1) refl
-pair-in p b c top z high r h = rw (le-ltb z b.cut (omega (arith, r, h.0)), le-ltb z c.cut h.0) refl
+pair_in p b c top z low r h = rw (lt-ltb z b.cut h.1) refl
+pair_in p b c top z middle r h = rw (le-ltb z b.cut h.0, lt-ltb z c.cut h.1) refl
+pair_in p b c top z high r h = rw (le-ltb z b.cut (omega (arith, r, h.0)), le-ltb z c.cut h.0) refl
 
 some_band : (cuts : Cuts) (layers z : ℕ) → z < layers → SomeBand cuts layers z
 some_band cuts layers z h = go (order z cuts.first) (order z cuts.second)
@@ -112,9 +112,9 @@ module _ (es : List ℕ) (top : ℕ) (m : Model) (w : Banded es top m) where
   cuts_are : cuts_in m ≡ record { first = w.second.cut; second = w.third.cut }
   cuts_are = rw w.bands refl
 
-  cuts-rise : w.second.cut < w.third.cut
+  cuts_rise : w.second.cut < w.third.cut
   unfolding cuts_in_bounds cuts_below rising
-  cuts-rise =
+  cuts_rise =
       let b = w.second in
       let c = w.third in
       let t : T (cuts_below (last_extent (es ++ top ∷ [])) (b ∷ c ∷ [])) = subst (λ (bs : List Band). T (cuts_below (last_extent (es ++ top ∷ [])) bs)) w.bands w.cuts in
@@ -125,10 +125,10 @@ module _ (es : List ℕ) (top : ℕ) (m : Model) (w : Banded es top m) where
   unfolding strides steps_at
   one_cell odds ns z l p h i =
       let layer = layer_of (es ++ top ∷ []) in
-      let size : 1 * cells es ≡ layer = one-mul (cells es) ∙ sym (layer-cells es top) in
+      let size : 1 * cells es ≡ layer = one-mul (cells es) ∙ sym (layer_cells es top) in
       let at : column_of (es ++ top ∷ []) (ns ++ z ∷ []) ≡ column_of es ns + z * layer =
       raised 1 es top ns z p ∙ ap (λ (n : ℕ). column_of es ns + z * n) size in
-      let inside : column_of es ns < layer = subst (λ (n : ℕ). column_of es ns < n) (sym (layer-cells es top)) (column-below es ns p) in
+      let inside : column_of es ns < layer = subst (λ (n : ℕ). column_of es ns < n) (sym (layer_cells es top)) (column-below es ns p) in
       let band : InBand (record { first = w.second.cut; second = w.third.cut }) top l z = subst (λ (c : Cuts). InBand c top l z) cuts_are i in
       record {
         place = column_of es ns + z * layer;
@@ -137,21 +137,21 @@ module _ (es : List ℕ) (top : ℕ) (m : Model) (w : Banded es top m) where
         pair =
             ap (steps_with m)
             (ap (λ (n : ℕ). pair_at ((column_of es ns + z * layer) / n) m.lowest m.above) w.layer
-            ∙ ap₂ (λ (n : ℕ) (bs : List Band). pair_at n m.lowest bs) (height-of (column_of es ns) z layer inside) w.bands
-            ∙ pair-in m.lowest w.second w.third top z l cuts-rise band);
+            ∙ ap₂ (λ (n : ℕ) (bs : List Band). pair_at n m.lowest bs) (height_of (column_of es ns) z layer inside) w.bands
+            ∙ pair_in m.lowest w.second w.third top z l cuts_rise band);
       }
 
 column : (ex ey x y : ℕ) → column_of (ex ∷ ey ∷ []) (x ∷ y ∷ []) ≡ x + y * ex
 unfolding times_strides strides_from strides
 column ex ey x y = omega (arith, mul-one x, ap (λ (n : ℕ). y * n) (one-mul ex))
 
-pub the-chart-knows-only-the-grids-promises : KnowsThePromises
+pub the_chart_knows_only_the_grids_promises : KnowsThePromises
 unfolding cells_between column_chart
-the-chart-knows-only-the-grids-promises =
+the_chart_knows_only_the_grids_promises =
     record {
       one_cell = one_cell;
       column = column;
-      columns = λ es top ns p. subst (λ (n : ℕ). column_of es ns < n) (sym (layer-cells es top)) (column-below es ns p);
+      columns = λ es top ns p. subst (λ (n : ℕ). column_of es ns < n) (sym (layer_cells es top)) (column-below es ns p);
       layers = last-top;
       some_band = some_band;
       heights = λ apart odds column from to. stacked-length apart odds (to - from) (column + from * apart);

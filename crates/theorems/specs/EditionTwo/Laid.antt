@@ -89,7 +89,7 @@ laid (c ∷ cs) h odds fit t held checked =
         ceiling = held.ceiling;
         above = all_held h.model.lowest (c ∷ cs) held.occupied held.free;
         layer = unfold bands_from in refl;
-        each-odds = held.each-odds;
+        each_odds = held.each_odds;
       };
       tried = closed_tried k.model h.frame _ _ _ odds [] ∙ rows_by_ceiling k.model (plain_head h).model refl _ _ _ odds ∙ checked;
       first-pair = refl;

@@ -14,7 +14,7 @@ use Rattle.record_laws.specs.Fields.{found, field_given}
 use Rattle.record_laws.specs.Heads.{rows_are_cells, tests_of_lem, writing_passes}
 use Rattle.record_laws.specs.Back.{record_bytes_length, record_back}
 use Rattle.record_laws.specs.Read.{read_again, read_sound}
-use Rattle.record_laws.specs.EditionTwo.Read.{edition-again, edition_sound}
+use Rattle.record_laws.specs.EditionTwo.Read.{edition_again, edition_sound}
 use Rattle.edition_writer.proofs.Rows.{closed_tried}
 use Rattle.theorems.specs.MapRecord.Cuts.{cuts_back}
 use Rattle.theorems.specs.EditionTwo.Laid.{same-cuts, closed_alike}
@@ -76,7 +76,7 @@ back_and_there axes bytes out up m some-axis b answer room =
     ap (λ (x : Head). edition_bytes x false (unstamped odds)) whole
     ∙ sym (closed_alike h k.grid)
     ∙ ap (λ (r : Bool). edition_bytes h r k.grid) (sym d.closed)
-    ∙ edition-again axes bytes k d.is b in
+    ∙ edition_again axes bytes k d.is b in
     ap (λ (x : List ℕ). upgrade_entry axes m.cuts x up) first
     ∙ moves_up axes m.cuts (record_bytes h odds) up s (down_is axes bytes k some-axis d.is d.closed) fit (omega arith)
     ∙ ap₂ (λ (j : ℕ) (x : List ℕ). record { answer = given j; lent = x ++ drop j up }) size again

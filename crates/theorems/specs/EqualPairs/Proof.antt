@@ -38,77 +38,77 @@ either_same true x y e = e
 either_same false x y e = refl
 
 -- the pair at every height is the lowest one's
-pub pair-everywhere : (height : ℕ) (p : Pair) (bs : List Band) → AllHave p bs → pair_at height p bs ≡ p
+pub pair_everywhere : (height : ℕ) (p : Pair) (bs : List Band) → AllHave p bs → pair_at height p bs ≡ p
 unfolding pair_at
-pair-everywhere height p [] a = refl
-pair-everywhere height p (b ∷ bs) a =
-    let r : pair_at height b.pair bs ≡ p = ap (λ (q : Pair). pair_at height q bs) a.0 ∙ pair-everywhere height p bs a.1 in
+pair_everywhere height p [] a = refl
+pair_everywhere height p (b ∷ bs) a =
+    let r : pair_at height b.pair bs ≡ p = ap (λ (q : Pair). pair_at height q bs) a.0 ∙ pair_everywhere height p bs a.1 in
     either_same (ltb height b.cut) p (pair_at height b.pair bs) (sym r) ∙ r
 
 twice : (b : Bool) → b && b ≡ b
 twice true = refl
 twice false = refl
 
-one-test : (test : Pair → Bool) (p : Pair) (bs : List Band) → AllHave p bs → all_pairs test p bs ≡ test p
+one_test : (test : Pair → Bool) (p : Pair) (bs : List Band) → AllHave p bs → all_pairs test p bs ≡ test p
 unfolding all_pairs
-one-test test p [] a = refl
-one-test test p (b ∷ bs) a =
-    ap (λ (q : Pair). test p && all_pairs test q bs) a.0 ∙ ap (λ (t : Bool). test p && t) (one-test test p bs a.1) ∙ twice (test p)
+one_test test p [] a = refl
+one_test test p (b ∷ bs) a =
+    ap (λ (q : Pair). test p && all_pairs test q bs) a.0 ∙ ap (λ (t : Bool). test p && t) (one_test test p bs a.1) ∙ twice (test p)
 
 -- bands from cuts, and a pair that equals the first one's in every bit
-pub bands-have : (p : Pair) (cuts : List ℕ) → AllHave p (bands_from p cuts)
+pub bands_have : (p : Pair) (cuts : List ℕ) → AllHave p (bands_from p cuts)
 unfolding bands_from
-bands-have p [] = tt
-bands-have p (c ∷ cs) = (refl, bands-have p cs)
+bands_have p [] = tt
+bands_have p (c ∷ cs) = (refl, bands_have p cs)
 
 holds : (b : Bool) → T b → b ≡ true
 holds true t = refl
 holds false t = absurd t
 
-same_bits : (x : Float) → same_bits x x ≡ true
+same_bits_lem : (x : Float) → same_bits x x ≡ true
 unfolding same_bits
-same_bits x = holds (eqb (to_bits binary64 x) (to_bits binary64 x)) (eq→eqb {a = to_bits binary64 x} refl)
+same_bits_lem x = holds (eqb (to_bits binary64 x) (to_bits binary64 x)) (eq→eqb {a = to_bits binary64 x} refl)
 
 same-pair : (p : Pair) → same_pair p p ≡ true
 unfolding same_pair
-same-pair p = ap₂ (λ (a b : Bool). a && b) (same_bits p.occupied) (same_bits p.free)
+same-pair p = ap₂ (λ (a b : Bool). a && b) (same_bits_lem p.occupied) (same_bits_lem p.free)
 
-equal-pairs : (p : Pair) (bs : List Band) → AllHave p bs → equal_pairs p bs ≡ true
+equal_pairs_lem : (p : Pair) (bs : List Band) → AllHave p bs → equal_pairs p bs ≡ true
 unfolding equal_pairs
-equal-pairs p [] a = refl
-equal-pairs p (b ∷ bs) a = ap₂ (λ (c d : Bool). c && d) (ap (same_pair p) a.0 ∙ same-pair p) (equal-pairs p bs a.1)
+equal_pairs_lem p [] a = refl
+equal_pairs_lem p (b ∷ bs) a = ap₂ (λ (c d : Bool). c && d) (ap (same_pair p) a.0 ∙ same-pair p) (equal_pairs_lem p bs a.1)
 
 -- ---- what a model with equal pairs does
 module _ (f : Format) (m : Model) (a : AllHave m.lowest m.above) where
   pub steps : (place : ℕ) → steps_at m place ≡ steps_at (plain m) place
   unfolding steps_at floor pair_at
-  steps place = ap (steps_with m) (pair-everywhere (place / m.layer) m.lowest m.above a)
+  steps place = ap (steps_with m) (pair_everywhere (place / m.layer) m.lowest m.above a)
 
-  mark-same : (k : ℕ) (x : Mark) (g : Grid) → mark_at f m k x g ≡ mark_at f (plain m) k x g
+  mark_same : (k : ℕ) (x : Mark) (g : Grid) → mark_at f m k x g ≡ mark_at f (plain m) k x g
   unfolding mark_at
-  mark-same k x g = ap (λ (s : Steps). mark_cell f s k x.occupied (cell_at g x.place)) (steps x.place)
+  mark_same k x g = ap (λ (s : Steps). mark_cell f s k x.occupied (cell_at g x.place)) (steps x.place)
 
   marked-same : (k : ℕ) (xs : List Mark) (g : Grid) → marked f m k xs g ≡ marked f (plain m) k xs g
   unfolding marked
   marked-same k [] g = refl
   marked-same k (x ∷ xs) g =
-      ap (λ (r : Marked). marked f m k xs (with_cell g x.place r.cell)) (mark-same k x g)
+      ap (λ (r : Marked). marked f m k xs (with_cell g x.place r.cell)) (mark_same k x g)
       ∙ marked-same k xs (with_cell g x.place (mark_at f (plain m) k x g).cell)
 
   changes-same : (k : ℕ) (xs : List Mark) (g : Grid) → changes f m k xs g ≡ changes f (plain m) k xs g
   unfolding changes
   changes-same k [] g = refl
   changes-same k (x ∷ xs) g =
-      ap (λ (r : Marked). cond r.changed 1 0 + changes f m k xs (with_cell g x.place r.cell)) (mark-same k x g)
+      ap (λ (r : Marked). cond r.changed 1 0 + changes f m k xs (with_cell g x.place r.cell)) (mark_same k x g)
       ∙ ap (λ (n : ℕ). cond (mark_at f (plain m) k x g).changed 1 0 + n) (changes-same k xs (with_cell g x.place (mark_at f (plain m) k x g).cell))
 
-  pub marks-same : (k : ℕ) (g : Grid) (xs : Answer (List Mark)) → integrated_marks f m k g xs ≡ integrated_marks f (plain m) k g xs
-  marks-same k g (given xs) = rw (marked-same k xs g, changes-same k xs g) refl
-  marks-same k g (refused r) = refl
+  pub marks_same : (k : ℕ) (g : Grid) (xs : Answer (List Mark)) → integrated_marks f m k g xs ≡ integrated_marks f (plain m) k g xs
+  marks_same k g (given xs) = rw (marked-same k xs g, changes-same k xs g) refl
+  marks_same k g (refused r) = refl
 
   pub beam-same : (es : List ℕ) (k : ℕ) (b : Beam) (g : Grid) → integrated_beam f es m k b g ≡ integrated_beam f es (plain m) k b g
   unfolding integrated_beam
-  beam-same es k b g = marks-same k g (beam_marks f es b)
+  beam-same es k b g = marks_same k g (beam_marks f es b)
 
   from-same : (es : List ℕ) (k place count : ℕ) (bs : List Beam) (g : Grid)
       → integrated_from f es m k place count bs g ≡ integrated_from f es (plain m) k place count bs g
@@ -133,38 +133,38 @@ module _ (f : Format) (m : Model) (a : AllHave m.lowest m.above) where
   unfolding set_odds
   odds-same place x odds = ap (λ (s : Steps). set odds place (limited s x)) (steps place)
 
-  bounds-same : (xs : List Float) → odds_in_bounds m xs ≡ odds_in_bounds (plain m) xs
+  bounds_same : (xs : List Float) → odds_in_bounds m xs ≡ odds_in_bounds (plain m) xs
   unfolding odds_in_bounds floor
-  bounds-same [] = refl
-  bounds-same (x ∷ xs) = rw (bounds-same xs) refl
+  bounds_same [] = refl
+  bounds_same (x ∷ xs) = rw (bounds_same xs) refl
 
   rows_same : (width n offset : ℕ) (odds : List Float) → rows_checked m width n offset odds ≡ rows_checked (plain m) width n offset odds
   unfolding rows_checked rows_tried
   rows_same width zero offset odds = refl
   rows_same width (suc n) offset odds =
-      rw (bounds-same (take width odds), rows_same width n (offset + field_size (row_length width)) (drop width odds)) refl
+      rw (bounds_same (take width odds), rows_same width n (offset + field_size (row_length width)) (drop width odds)) refl
 
 -- ---- the entries
 -- what is refused is the same
 refusals : (h : Head) → OnePair h → (u : Uses) (odds stamps : ℕ) → head_refusal u h odds stamps ≡ head_refusal u (plain_head h) odds stamps
 unfolding head_refusal bounded all_pairs cuts_in_bounds cuts_below
 refusals h o u odds stamps =
-    rw (one-test (pair_bounded h.model.ceiling) h.model.lowest h.model.above o.pairs, holds (cuts_in_bounds h.extents h.model) o.cuts) refl
+    rw (one_test (pair_bounded h.model.ceiling) h.model.lowest h.model.above o.pairs, holds (cuts_in_bounds h.extents h.model) o.cuts) refl
 
 -- a head with the model, answered unless something is refused
-head-answer : {L : Type 0} (r q : Option Refusal) (h : Head) (kept left : L) → r ≡ q
+head_answer : {L : Type 0} (r q : Option Refusal) (h : Head) (kept left : L) → r ≡ q
     → plainly (unless_refused r kept (record { answer = given h; lent = left })) ≡ unless_refused q kept (record { answer = given (plain_head h); lent = left })
-head-answer (some r) q h kept left e = rw (sym e) refl
-head-answer none q h kept left e = rw (sym e) refl
+head_answer (some r) q h kept left e = rw (sym e) refl
+head_answer none q h kept left e = rw (sym e) refl
 
 -- Opening these opens the entries.
 unfoldable opened_entries : ℕ
 unfolding new_entry reset_entry begin_scan_entry mark_entry update_ray_entry update_scan_entry update_beams_entry update_sweep_entry update_vertical_entry
 opened_entries = 0
 
-unfoldable openedReads : ℕ
+unfoldable opened_reads : ℕ
 unfolding set_log_odds_entry set_log_odds_checked_entry log_odds_at_entry sample_log_odds_entry sample_all_log_odds_entry cell_containing_entry write_record_entry
-openedReads = 0
+opened_reads = 0
 
 -- the head that `new` tries
 abbrev fresh : Head → Head
@@ -176,15 +176,15 @@ module _ (f : Format) (h : Head) (o : OnePair h) where
       ≡ head_refusal (uses_of Entries.beams) (plain_head h) (length g.odds) (length g.stamps)
   tried g = refusals h o (uses_of Entries.beams) (length g.odds) (length g.stamps)
 
-  mark-answer : (occupied : Bool) (g : Grid) (i : Answer ℕ) → mark_answer f h occupied g i ≡ mark_answer f (plain_head h) occupied g i
-  mark-answer occupied g (refused r) = refl
-  mark-answer occupied g (given i) =
+  mark_answer_lem : (occupied : Bool) (g : Grid) (i : Answer ℕ) → mark_answer f h occupied g i ≡ mark_answer f (plain_head h) occupied g i
+  mark_answer_lem occupied g (refused r) = refl
+  mark_answer_lem occupied g (given i) =
       ap (λ (r : Marked). record { answer = given r.changed; lent = with_cell g i r.cell })
-      (mark-same f h.model o.pairs h.frame (record { place = i; occupied = occupied }) g)
+      (mark_same f h.model o.pairs h.frame (record { place = i; occupied = occupied }) g)
 
-  sweep-answer : (g : Grid) (s : Answer Sweep) → sweep_answer f h g s ≡ sweep_answer f (plain_head h) g s
-  sweep-answer g (refused r) = refl
-  sweep-answer g (given s) = ap (swept_by s.station) (list_same f h.model o.pairs h.extents h.frame s.beams g)
+  sweep_answer_lem : (g : Grid) (s : Answer Sweep) → sweep_answer f h g s ≡ sweep_answer f (plain_head h) g s
+  sweep_answer_lem g (refused r) = refl
+  sweep_answer_lem g (given s) = ap (swept_by s.station) (list_same f h.model o.pairs h.extents h.frame s.beams g)
 
   set_answer_lem : (x : Float) (odds : List Float) (i : Answer ℕ) → set_answer h x odds i ≡ set_answer (plain_head h) x odds i
   set_answer_lem x odds (refused r) = refl
@@ -198,15 +198,15 @@ module _ (f : Format) (h : Head) (o : OnePair h) where
   unfolding writable pairs_checked equal_pairs
   writable-same odds room =
       let es = h.extents in
-      rw (equal-pairs h.model.lowest h.model.above o.pairs, rows_same f h.model o.pairs (row_width es) (row_count es) (rows_offset (length es)) odds) refl
+      rw (equal_pairs_lem h.model.lowest h.model.above o.pairs, rows_same f h.model o.pairs (row_width es) (row_count es) (rows_offset (length es)) odds) refl
 
-  write-answer : (odds : List Float) (out : List ℕ) (n : Answer ℕ) → write_answer h odds out n ≡ write_answer (plain_head h) odds out n
+  write_answer_lem : (odds : List Float) (out : List ℕ) (n : Answer ℕ) → write_answer h odds out n ≡ write_answer (plain_head h) odds out n
   unfolding record_bytes
-  write-answer odds out (refused r) = refl
-  write-answer odds out (given n) = refl
+  write_answer_lem odds out (refused r) = refl
+  write_answer_lem odds out (given n) = refl
 
   alike : Alike f h
-  unfolding opened_entries openedReads
+  unfolding opened_entries opened_reads
   alike =
       let again : List Float → List ℕ → Answer ℕ = λ odds out. writable (plain_head h) odds (length out) in
       let m = h.model in
@@ -214,14 +214,14 @@ module _ (f : Format) (h : Head) (o : OnePair h) where
       let k = h.frame in
       record {
         steps = steps f m o.pairs;
-        new = λ g. head-answer _ _ _ g _ (refusals (fresh h) (record { pairs = o.pairs; cuts = o.cuts }) (uses_of Entries.new) (length g.odds) (length g.stamps));
-        reset = λ g. head-answer _ _ _ g _ (refusals h o (uses_of Entries.reset) (length g.odds) (length g.stamps));
-        begin_scan = λ stamps. head-answer _ _ _ stamps _ (refusals h o (uses_of Entries.begin_scan) 0 (length stamps));
-        mark = λ occupied cell g. rw (refusals h o (uses_of Entries.marks) (length g.odds) (length g.stamps), mark-answer occupied g (flat_index es cell)) refl;
+        new = λ g. head_answer _ _ _ g _ (refusals (fresh h) (record { pairs = o.pairs; cuts = o.cuts }) (uses_of Entries.new) (length g.odds) (length g.stamps));
+        reset = λ g. head_answer _ _ _ g _ (refusals h o (uses_of Entries.reset) (length g.odds) (length g.stamps));
+        begin_scan = λ stamps. head_answer _ _ _ stamps _ (refusals h o (uses_of Entries.begin_scan) 0 (length stamps));
+        mark = λ occupied cell g. rw (refusals h o (uses_of Entries.marks) (length g.odds) (length g.stamps), mark_answer_lem occupied g (flat_index es cell)) refl;
         ray = λ b g. rw (tried g, beam-same f m o.pairs es k b g) refl;
         scan = λ numbers hits g. rw (tried g, list_same f m o.pairs es k (beams_of (length es) numbers hits) g) refl;
         beams = λ bs g. rw (tried g, list_same f m o.pairs es k bs g) refl;
-        sweep = λ bytes g. rw (tried g, sweep-answer g (sweep_of (length es) bytes)) refl;
+        sweep = λ bytes g. rw (tried g, sweep_answer_lem g (sweep_of (length es) bytes)) refl;
         vertical = λ v g. rw (tried g, marked-same f m o.pairs k (vertical_marks es v) g, changes-same f m o.pairs k (vertical_marks es v) g) refl;
         set = λ cell x odds. rw (refusals h o (uses_of Entries.set_log_odds) (length odds) 0, set_answer_lem x odds (flat_index es cell)) refl;
         set-checked = λ cell x odds. rw (refusals h o (uses_of Entries.set_log_odds) (length odds) 0, checked_answer_lem x odds (flat_index es cell)) refl;
@@ -229,17 +229,17 @@ module _ (f : Format) (h : Head) (o : OnePair h) where
         sample = λ point odds. rw (refusals h o (uses_of Entries.samples) (length odds) 0) refl;
         sample-all = λ points odds s. rw (refusals h o (uses_of Entries.samples) (length odds) 0) refl;
         cell-containing = λ point. rw (refusals h o (uses_of Entries.cell-containing) 0 0) refl;
-        write = λ odds out. rw (refusals h o (uses_of Entries.writing) (length odds) 0, writable-same odds (length out), write-answer odds out (again odds out)) refl;
+        write = λ odds out. rw (refusals h o (uses_of Entries.writing) (length odds) 0, writable-same odds (length out), write_answer_lem odds out (again odds out)) refl;
       }
 
-pub equal-pairs-are-one : EqualPairsAreOne
-equal-pairs-are-one = alike
+pub equal_pairs_are_one : EqualPairsAreOne
+equal_pairs_are_one = alike
 
 -- ---- reading
-stored-alike : (cuts : List ℕ) (g : Grid) (s : Stored) → T (cuts_in_bounds s.head.extents (with_cuts cuts s.head).model) → plain_head s.head ≡ s.head
+stored_alike : (cuts : List ℕ) (g : Grid) (s : Stored) → T (cuts_in_bounds s.head.extents (with_cuts cuts s.head).model) → plain_head s.head ≡ s.head
     → plainly (read_answer cuts g (given s)) ≡ read_answer [] g (given s)
 unfolding cuts_in_bounds cuts_below
-stored-alike cuts g s t e =
+stored_alike cuts g s t e =
     let none : cuts_in_bounds s.head.extents s.head.model ≡ true = ap (λ (h : Head). cuts_in_bounds h.extents h.model) (sym e) in
     let b = one_per_cell s.head.extents (length g.odds) && one_per_cell s.head.extents (length g.stamps) in
     rw (holds (cuts_in_bounds s.head.extents (with_cuts cuts s.head).model) t, none) (sized b)
@@ -268,4 +268,4 @@ read_alike axes cuts bytes g fit = go (record_of axes bytes) fit (λ s e. read_p
     go : (r : Answer Stored) → ((s : Stored) → r ≡ given s → T (cuts_in_bounds s.head.extents (with_cuts cuts s.head).model))
         → ((s : Stored) → r ≡ given s → plain_head s.head ≡ s.head) → plainly (read_answer cuts g r) ≡ read_answer [] g r
     go (refused r) k e = refl
-    go (given s) k e = stored-alike cuts g s (k s refl) (e s refl)
+    go (given s) k e = stored_alike cuts g s (k s refl) (e s refl)

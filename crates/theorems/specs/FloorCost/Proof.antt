@@ -19,7 +19,7 @@ use Rattle.theorems.specs.PromiseThree.Multiple.{many, plus, less}
 use Rattle.theorems.specs.PromiseThree.TakeBack.{alone, taken_back, most, most-fits, StepUnits, free_is, freed_is, alone_is, back_low, take_back}
 use Rattle.theorems.specs.PromiseThree.OneCell.{above, in_units, near-zero, step_units, of_units_lem}
 use Rattle.theorems.specs.PromiseThree.Orders.{back_step}
-use Rattle.theorems.specs.PromiseThree.Proof.{promise-three}
+use Rattle.theorems.specs.PromiseThree.Proof.{promise_three}
 use Rattle.theorems.specs.FloorCost.{InUnits, lone_vote, FloorCost}
 
 -- at most the one and at least the other less a clear step
@@ -129,31 +129,31 @@ module _ (f : Format) (m : Model) (i : ℕ) (o : Float) (b : T (bounded m)) (n :
   near : (plus f o ≤ less f o + 4 * most f) × (less f o ≤ plus f o + 4 * most f)
   near = near-zero f s O F C u o (of_units_lem f o w).0 (of_units_lem f o w).1 from-floor to_ceiling
 
-  hit-alone : Between f s (cloud_alone f s o) (cloud_alone f s o)
-  hit-alone = alone-between f s O F C u o (plus f o) (less f o) units near.0 near.1
+  hit_alone : Between f s (cloud_alone f s o) (cloud_alone f s o)
+  hit_alone = alone-between f s O F C u o (plus f o) (less f o) units near.0 near.1
 
-  hit-after-clear : (k : ℕ) → Between f s (cloud_alone f s o) (cloud_after_clear f s k o)
-  hit-after-clear k =
+  hit_after_clear : (k : ℕ) → Between f s (cloud_alone f s o) (cloud_after_clear f s k o)
+  hit_after_clear k =
       subst (λ (d : Float). Between f s (cloud_alone f s o) (occupy f s (freed f s o) d)) (sym (back_step f s k (record { odds = freed f s o; stamp = stamp_of k false }) refl))
       (after-clear f s O F C u o (plus f o) (less f o) units near.0 near.1 (above f s O F C u o (of_units_lem f o w).0 (of_units_lem f o w).1 from-floor))
 
 -- THE THEOREM
-module _ {A : Type 0} (f : Format) (h : Head) (g : Grid) (marksOf : A → Answer (List Mark)) (bs : List A) (after : Grid)
-    (p : Opened h g) (c : Ends f h g marksOf bs after) (e : InUnits f h g) where
-  hit-cell : (i : ℕ) → i < cells h.extents → Hit marksOf bs i → Between f (steps_at h.model i) (lone_vote f h g i) (cell_at after i).odds
+module _ {A : Type 0} (f : Format) (h : Head) (g : Grid) (marks_of : A → Answer (List Mark)) (bs : List A) (after : Grid)
+    (p : Opened h g) (c : Ends f h g marks_of bs after) (e : InUnits f h g) where
+  hit_cell : (i : ℕ) → i < cells h.extents → Hit marks_of bs i → Between f (steps_at h.model i) (lone_vote f h g i) (cell_at after i).odds
   unfolding s
-  hit-cell i l w =
+  hit_cell i l w =
       let o = get_or g.odds i nan in
       let B : Float → Type 0 = λ x. Between f (steps_at h.model i) (lone_vote f h g i) x in
       elim (c.cloud-odds i l w) [
-        | inl q ↦ subst B (sym q) (hit-alone f h.model i o p.model e.model (p.within i l) (e.odds i l))
-        | inr q ↦ subst B (sym q) (hit-after-clear f h.model i o p.model e.model (p.within i l) (e.odds i l) (frame_opened h))
+        | inl q ↦ subst B (sym q) (hit_alone f h.model i o p.model e.model (p.within i l) (e.odds i l))
+        | inr q ↦ subst B (sym q) (hit_after_clear f h.model i o p.model e.model (p.within i l) (e.odds i l) (frame_opened h))
       ]
 
   -- wherever cells end as promise 3 has it
-  pub ends-cost : FloorCost f h g marksOf bs after
-  ends-cost = record { no_higher = λ i l w. (hit-cell i l w).no_higher; one_clear_step = λ i l w. (hit-cell i l w).one_clear_step }
+  pub ends_cost : FloorCost f h g marks_of bs after
+  ends_cost = record { no_higher = λ i l w. (hit_cell i l w).no_higher; one_clear_step = λ i l w. (hit_cell i l w).one_clear_step }
 
 -- of one list of beams
-pub floor-cost : (f : Format) (h : Head) (g : Grid) (bs : List Beam) → Sweep f h g bs → InUnits f h g → FloorCost f h g (beam_marks f h.extents) bs (sweep f h g bs).grid
-floor-cost f h g bs p e = ends-cost f h g (beam_marks f h.extents) bs (sweep f h g bs).grid p.opened (promise-three f h g bs p).ends e
+pub floor_cost : (f : Format) (h : Head) (g : Grid) (bs : List Beam) → Sweep f h g bs → InUnits f h g → FloorCost f h g (beam_marks f h.extents) bs (sweep f h g bs).grid
+floor_cost f h g bs p e = ends_cost f h g (beam_marks f h.extents) bs (sweep f h g bs).grid p.opened (promise_three f h g bs p).ends e

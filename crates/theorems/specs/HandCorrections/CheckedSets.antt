@@ -6,7 +6,7 @@ use Rattle.std.specs.Float.Ieee.{is_nan}
 use Rattle.rules.specs.RefusalNumbers.{Answer}
 use Rattle.rules.specs.RefusalNumbers.Entries.{Outcome, set_log_odds_entry, set_log_odds_checked_entry}
 use Rattle.rules.specs.TheGridAndItsBounds.{Head}
-use Rattle.theorems.specs.CheckedSet.{number_set, nan_refused, not_aNumber}
+use Rattle.theorems.specs.CheckedSet.{number_set, nan_refused, not_a_number}
 use Rattle.theorems.specs.HandCorrections.Sets.{set-length, second_set, set_answer_lem, sets_exchanged}
 
 abbrev left : Outcome (Unit {0}) (List Float) → List Float
@@ -36,7 +36,7 @@ module _ (h : Head) (cell : List ℤ) (x : Float) where
       go : (b : Bool) → is_nan x ≡ b → (set_log_odds_checked_entry h cell x odds).answer ≡ (set_log_odds_checked_entry h cell x other).answer
       go true e =
           ap (λ (o : Outcome (Unit {0}) (List Float)). o.answer) (nan_refused h cell x odds e)
-          ∙ ap not_aNumber same
+          ∙ ap not_a_number same
           ∙ sym (ap (λ (o : Outcome (Unit {0}) (List Float)). o.answer) (nan_refused h cell x other e))
       go false e =
           ap (λ (o : Outcome (Unit {0}) (List Float)). o.answer) (number_set h cell x odds e)

@@ -23,13 +23,13 @@ no_structs f h g = go (head_refusal (uses_of beams) h (length g.odds) (length g.
     go (some r) = refl
     go none = refl
 
-empty-shape : (n : ℕ) → T (flat_shape n [] [])
+empty_shape : (n : ℕ) → T (flat_shape n [] [])
 unfolding flat_shape all_bits
-empty-shape n = and_i (eqb 0 (2 * n * 0)) true (eq→eqb (sym (mul-zero (2 * n)))) tt
+empty_shape n = and_i (eqb 0 (2 * n * 0)) true (eq→eqb (sym (mul-zero (2 * n)))) tt
 
 pub no_numbers : (f : Format) (h : Head) (g : Grid) → update_scan_entry f h [] [] g ≡ nothing_done h g
 unfolding beams_of
-no_numbers f h g = flat_as_structs f h [] [] g (empty-shape (length h.extents)) ∙ no_structs f h g
+no_numbers f h g = flat_as_structs f h [] [] g (empty_shape (length h.extents)) ∙ no_structs f h g
 
 -- ---- two lists
 bits_joined : (hs ks : List ℕ) → T (all_bits hs) → T (all_bits ks) → T (all_bits (hs ++ ks))
@@ -41,9 +41,9 @@ shape_count : (n : ℕ) (xs : List Float) (hs : List ℕ) → T (flat_shape n xs
 unfolding flat_shape
 shape_count n xs hs t = eqb→eq (length xs) (2 * n * length hs) (and_l (eqb (length xs) (2 * n * length hs)) (all_bits hs) t)
 
-pub shape-joined : (n : ℕ) (xs ys : List Float) (hs ks : List ℕ) → T (flat_shape n xs hs) → T (flat_shape n ys ks) → T (flat_shape n (xs ++ ys) (hs ++ ks))
+pub shape_joined : (n : ℕ) (xs ys : List Float) (hs ks : List ℕ) → T (flat_shape n xs hs) → T (flat_shape n ys ks) → T (flat_shape n (xs ++ ys) (hs ++ ks))
 unfolding flat_shape
-shape-joined n xs ys hs ks p q =
+shape_joined n xs ys hs ks p q =
     let together : length (xs ++ ys) ≡ 2 * n * length (hs ++ ks) =
     length-append xs ys ∙ ap₂ (λ (i j : ℕ). i + j) (shape_count n xs hs p) (shape_count n ys ks q) ∙ sym (mul-add (2 * n) (length hs) (length ks))
     ∙ ap (λ (i : ℕ). 2 * n * i) (sym (length-append hs ks)) in
@@ -86,7 +86,7 @@ flat_lists f h xs ys hs ks g p q =
     let second : update_scan_entry f h ys ks (update_scan_entry f h xs hs g).lent ≡ update_beams_entry f h (beams_of n ys ks) (update_beams_entry f h (beams_of n xs hs) g).lent =
     flat_as_structs f h ys ks (update_scan_entry f h xs hs g).lent q ∙ ap (λ (o : Outcome ℕ Grid). update_beams_entry f h (beams_of n ys ks) o.lent) first in
     let both : update_scan_entry f h (xs ++ ys) (hs ++ ks) g ≡ update_beams_entry f h (beams_of n xs hs ++ beams_of n ys ks) g =
-    flat_as_structs f h (xs ++ ys) (hs ++ ks) g (shape-joined n xs ys hs ks p q)
+    flat_as_structs f h (xs ++ ys) (hs ++ ks) g (shape_joined n xs ys hs ks p q)
     ∙ ap (λ (bs : List Beam). update_beams_entry f h bs g) (beams_joined n xs ys hs ks (shape_count n xs hs p)) in
     subst (λ (c : ℕ). Joined c (update_scan_entry f h xs hs g) (update_scan_entry f h ys ks (update_scan_entry f h xs hs g).lent) (update_scan_entry f h (xs ++ ys) (hs ++ ks) g)) (beams_count n xs hs)
     (rw (second, both, first) (lists f h (beams_of n xs hs) (beams_of n ys ks) g))

@@ -9,8 +9,8 @@ use Rattle.theorems.specs.HandCorrections.Resets.{reset_answers, reset_alone}
 use Rattle.theorems.specs.HandCorrections.Sweeps.{lists}
 use Rattle.theorems.specs.HandCorrections.FlatLists.{no_structs, no_numbers, flat_lists}
 
-pub hand-corrections : (f : Format) → HandCorrections f
-hand-corrections f =
+pub hand_corrections : (f : Format) → HandCorrections f
+hand_corrections f =
     record {
       second_set = second_set;
       sets_exchanged = sets_exchanged;

@@ -156,24 +156,24 @@ checked-length h cell x odds = go (is_nan x) refl
     go true e = ap (λ (o : Outcome (Unit {0}) (List Float)). length o.lent) (nan_refused h cell x odds e)
     go false e = ap (λ (o : Outcome (Unit {0}) (List Float)). length o.lent) (number_set h cell x odds e) ∙ set-length h cell x odds
 
-call-keeps : (f : Format) (c : Call) (m : Map) → Kept m (after f c m)
+call_keeps : (f : Format) (c : Call) (m : Map) → Kept m (after f c m)
 unfolding begin_scan_entry reset_entry
-call-keeps f (set-odds cell x) m =
+call_keeps f (set-odds cell x) m =
     same_head m (record { odds = (set_log_odds_entry m.head cell x m.grid.odds).lent; stamps = m.grid.stamps }) (record { odds = set-length m.head cell x m.grid.odds; stamps = refl })
-call-keeps f (set-checked cell x) m =
+call_keeps f (set-checked cell x) m =
     same_head m (record { odds = (set_log_odds_checked_entry m.head cell x m.grid.odds).lent; stamps = m.grid.stamps }) (record { odds = checked-length m.head cell x m.grid.odds; stamps = refl })
-call-keeps f (mark occupied cell) m = same_head m (mark_entry f occupied m.head cell m.grid).lent (mark_kept f m.head occupied cell m.grid)
-call-keeps f (update_ray b) m = same_head m (update_ray_entry f m.head b m.grid).lent (ray-kept f m.head b m.grid)
-call-keeps f (update_scan numbers hits) m = same_head m (update_scan_entry f m.head numbers hits m.grid).lent (scan_kept f m.head numbers hits m.grid)
-call-keeps f (update_beams bs) m = same_head m (update_beams_entry f m.head bs m.grid).lent (beams_kept f m.head bs m.grid)
-call-keeps f (update_sweep bytes) m = same_head m (update_sweep_entry f m.head bytes m.grid).lent (sweep-kept f m.head bytes m.grid)
-call-keeps f (update_vertical b) m = same_head m (update_vertical_entry f m.head b m.grid).lent (vertical-kept f m.head b m.grid)
-call-keeps f open_scan m = opened-kept m (head_refusal (uses_of begin_scan) m.head 0 (length m.grid.stamps))
-call-keeps f reset_map m = fresh_kept m (tried m) refl
+call_keeps f (mark occupied cell) m = same_head m (mark_entry f occupied m.head cell m.grid).lent (mark_kept f m.head occupied cell m.grid)
+call_keeps f (update_ray b) m = same_head m (update_ray_entry f m.head b m.grid).lent (ray-kept f m.head b m.grid)
+call_keeps f (update_scan numbers hits) m = same_head m (update_scan_entry f m.head numbers hits m.grid).lent (scan_kept f m.head numbers hits m.grid)
+call_keeps f (update_beams bs) m = same_head m (update_beams_entry f m.head bs m.grid).lent (beams_kept f m.head bs m.grid)
+call_keeps f (update_sweep bytes) m = same_head m (update_sweep_entry f m.head bytes m.grid).lent (sweep-kept f m.head bytes m.grid)
+call_keeps f (update_vertical b) m = same_head m (update_vertical_entry f m.head b m.grid).lent (vertical-kept f m.head b m.grid)
+call_keeps f open_scan m = opened-kept m (head_refusal (uses_of begin_scan) m.head 0 (length m.grid.stamps))
+call_keeps f reset_map m = fresh_kept m (tried m) refl
 
-calls-keep : (f : Format) (cs : List Call) (m : Map) → Kept m (after_all f cs m)
-calls-keep f [] m = all-kept m
-calls-keep f (c ∷ cs) m = then_kept m (after f c m) (after_all f cs (after f c m)) (call-keeps f c m) (calls-keep f cs (after f c m))
+calls_keep : (f : Format) (cs : List Call) (m : Map) → Kept m (after_all f cs m)
+calls_keep f [] m = all-kept m
+calls_keep f (c ∷ cs) m = then_kept m (after f c m) (after_all f cs (after f c m)) (call_keeps f c m) (calls_keep f cs (after f c m))
 
 -- ---- `reset` looks at the extents, the model and the lengths
 -- what it refuses
@@ -210,7 +210,7 @@ pub reset_answers : (f : Format) (cs : List Call) (m : Map)
     → (reset_entry (after_all f cs m).head (after_all f cs m).grid).answer ≡ (reset_entry m.head m.grid).answer
 reset_answers f cs m =
     let x = after_all f cs m in
-    ap (λ (o : Outcome Head Grid). o.answer) (reset_is m x (calls-keep f cs m))
+    ap (λ (o : Outcome Head Grid). o.answer) (reset_is m x (calls_keep f cs m))
     ∙ same_answer m.head.extents m.head.model x.grid m.grid (tried m)
     ∙ sym (ap (λ (o : Outcome Head Grid). o.answer) (reset_is m m (all-kept m)))
 
@@ -219,6 +219,6 @@ pub reset_alone : (f : Format) (cs : List Call) (m : Map) (k : Head) → (reset_
 reset_alone f cs m k e =
     let x = after_all f cs m in
     let own = reset_is m m (all-kept m) in
-    reset_is m x (calls-keep f cs m)
+    reset_is m x (calls_keep f cs m)
     ∙ same_outcome m.head.extents m.head.model x.grid m.grid (tried m) k (sym (ap (λ (o : Outcome Head Grid). o.answer) own) ∙ e)
     ∙ sym own

@@ -87,15 +87,15 @@ refused_is : {A : Type 0} (r t : Refusal) → ◌≡◌ {A = Answer A} (refused 
 refused_is r t e = cc
 
 -- by how the first ended, and then the second
-by-ends : (p : ℕ) (g : Grid) (e : Ended) (x : Grid) (go : Grid → Came)
+by_ends : (p : ℕ) (g : Grid) (e : Ended) (x : Grid) (go : Grid → Came)
     → Joined p (outcome none g (record { end = e; grid = x })) (outcome none x (go x)) (outcome none g (put_behind p (record { end = e; grid = x }) go))
-by-ends p g (stopped q n) x go =
+by_ends p g (stopped q n) x go =
     record {
       counts_added = λ k l a b. absurd (not_given k (ray_in_list q n) a);
       first_refused = λ r a. refl;
       second_refused = λ k r a b. absurd (not_given k (ray_in_list q n) a);
     }
-by-ends p g (done n) x go = second (go x).end
+by_ends p g (done n) x go = second (go x).end
   where
     second : (e : Ended)
         → Joined p (outcome none g (record { end = done n; grid = x })) (outcome none x (record { end = e; grid = (go x).grid }))
@@ -119,19 +119,19 @@ by-ends p g (done n) x go = second (go x).end
               );
         }
 
-by-head : (p : ℕ) (g : Grid) (r : Option Refusal) (c : Came) (go : Grid → Came)
+by_head : (p : ℕ) (g : Grid) (r : Option Refusal) (c : Came) (go : Grid → Came)
     → Joined p (outcome r g c) (outcome r (outcome r g c).lent (go (outcome r g c).lent)) (outcome r g (put_behind p c go))
-by-head p g (some r) c go =
+by_head p g (some r) c go =
     record {
       counts_added = λ k l a b. absurd (not_given k r a);
       first_refused = λ t a. refl;
       second_refused = λ k t a b. absurd (not_given k r a);
     }
-by-head p g none c go = by-ends p g c.end c.grid go
+by_head p g none c go = by_ends p g c.end c.grid go
 
 -- two lists of structs
 pub lists : (f : Format) (h : Head) (bs cs : List Beam) (g : Grid)
     → Joined (length bs) (update_beams_entry f h bs g) (update_beams_entry f h cs (update_beams_entry f h bs g).lent) (update_beams_entry f h (bs ++ cs) g)
 lists f h bs cs g =
     rw (second_is f h bs cs g, both_is f h bs cs g, entry_is f h bs g)
-    (by-head (length bs) g (tried h g) (list f h bs g) (λ x. list f h cs x))
+    (by_head (length bs) g (tried h g) (list f h bs g) (λ x. list f h cs x))

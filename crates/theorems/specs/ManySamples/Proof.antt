@@ -37,8 +37,8 @@ module _ (f : Format) (es : List ℕ) (odds : List Float) where
         (length-take (length es) points ∙ omega (arith, mul-suc (length es) k))
         (length-take (suc (length es)) held ∙ omega (arith, mul-suc (suc (length es)) k))
 
-    points-left : length (drop (length es) points) ≡ length es * k
-    points-left = length-drop (length es) points ∙ omega (arith, mul-suc (length es) k)
+    points_left : length (drop (length es) points) ≡ length es * k
+    points_left = length-drop (length es) points ∙ omega (arith, mul-suc (length es) k)
 
     held-left : length (drop (suc (length es)) held) ≡ suc (length es) * k
     held-left = length-drop (suc (length es)) held ∙ omega (arith, mul-suc (suc (length es)) k)
@@ -54,7 +54,7 @@ module _ (f : Format) (es : List ℕ) (odds : List Float) where
       ap (λ (l : List Float). take (suc n) l)
       (sym (one_on (suc n) i (slots_all f es odds (suc k) points held))
       ∙ ap (λ (l : List Float). drop (suc n * i) l) (drop_at (first k points held ps hs) _ (suc n) (first-size k points held ps hs)))
-      ∙ slot_is k i (drop n points) (drop (suc n) held) (omega arith) (points-left k points held ps hs) (held-left k points held ps hs)
+      ∙ slot_is k i (drop n points) (drop (suc n) held) (omega arith) (points_left k points held ps hs) (held-left k points held ps hs)
       ∙ rw (one_on n i points, one_on (suc n) i held) refl
 
   mark_is : (k i : ℕ) (points : List Float) → i < k → get_or (found_all f es odds k points) i 0 ≡ found_of (sample f es odds (point_at (length es) i points))
@@ -63,24 +63,24 @@ module _ (f : Format) (es : List ℕ) (odds : List Float) where
   mark_is (suc k) zero points h = rw mul-zero refl
   mark_is (suc k) (suc i) points h = mark_is k i (drop (length es) points) (omega arith) ∙ rw one_on refl
 
-  slots-size : (k : ℕ) (points held : List Float) → length points ≡ length es * k → length held ≡ suc (length es) * k
+  slots_size : (k : ℕ) (points held : List Float) → length points ≡ length es * k → length held ≡ suc (length es) * k
       → length (slots_all f es odds k points held) ≡ length held
   unfolding slots_all
-  slots-size zero points held ps hs = refl
-  slots-size (suc k) points held ps hs =
+  slots_size zero points held ps hs = refl
+  slots_size (suc k) points held ps hs =
       length-append (first k points held ps hs) _
       ∙ omega (
         arith,
         first-size k points held ps hs,
         held-left k points held ps hs,
         mul-suc (suc (length es)) k,
-        slots-size k (drop (length es) points) (drop (suc (length es)) held) (points-left k points held ps hs) (held-left k points held ps hs),
+        slots_size k (drop (length es) points) (drop (suc (length es)) held) (points_left k points held ps hs) (held-left k points held ps hs),
       )
 
-  marks-size : (k : ℕ) (points : List Float) → length (found_all f es odds k points) ≡ k
+  marks_size : (k : ℕ) (points : List Float) → length (found_all f es odds k points) ≡ k
   unfolding found_all
-  marks-size zero points = refl
-  marks-size (suc k) points = ap suc (marks-size k (drop (length es) points))
+  marks_size zero points = refl
+  marks_size (suc k) points = ap suc (marks_size k (drop (length es) points))
 
 module _ (f : Format) (h : Head) (points odds : List Float) (s : Slots) where
   abbrev n : ℕ
@@ -133,14 +133,14 @@ module _ (f : Format) (h : Head) (points odds : List Float) (s : Slots) where
           slot = slot_is f h.extents odds k i points s.samples l ps hs;
           mark = mark_is f h.extents odds k i points l;
         };
-        numbers_kept = slots-size f h.extents odds k points s.samples ps hs;
-        marks_kept = marks-size f h.extents odds k points;
+        numbers_kept = slots_size f h.extents odds k points s.samples ps hs;
+        marks_kept = marks_size f h.extents odds k points;
         refused_alike = λ r' point e.
             let a : answered none (given (sample f h.extents odds point)) ≡ refused r' = rw p at (sym (alone point) ∙ e) in
             let z : ◌≡◌ {A = ℕ} 0 1 = cc in absurd (omega arith);
         nothing_written = λ r' e. let z : ◌≡◌ {A = ℕ} 0 1 = cc in absurd (omega arith);
       }
 
-pub many-samples : (f : Format) → ManySamples f
+pub many_samples : (f : Format) → ManySamples f
 unfolding sample_all_log_odds_entry
-many-samples f h points odds s = by_tests f h points odds s (head f h points odds s) (counts f h points odds s) refl refl
+many_samples f h points odds s = by_tests f h points odds s (head f h points odds s) (counts f h points odds s) refl refl

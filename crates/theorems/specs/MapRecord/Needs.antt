@@ -112,7 +112,7 @@ pub record Needed : Type 0 where
       ≡ given (record { head = record { extents = 2 ∷ 2 ∷ []; model = model; frame = 256 }; odds = replicate 4 zero_f })
   pub bytes_needed : little_endian 4 256 ≡ 0 ∷ 1 ∷ 0 ∷ 0 ∷ []
   -- A record may be broken at its end, at no byte of its own: nothing at all, and a record without its last field.
-  pub nothing-broken : record_of 2 [] ≡ refused (broken_record 0)
+  pub nothing_broken : record_of 2 [] ≡ refused (broken_record 0)
   pub end-broken : (length (take 79 (bytes_of four)) ≡ 79) × (record_of 2 (take 79 (bytes_of four)) ≡ refused (broken_record 79))
 
 pub needed : Needed
@@ -126,7 +126,7 @@ needed =
         ceiling = refl;
         above = tt;
         layer = refl;
-        each-odds = are_64 four refl;
+        each_odds = are_64 four refl;
       };
       three_axes = (refl, refl);
       equal-bands = (refl, refl);
@@ -136,7 +136,7 @@ needed =
         ceiling = refl;
         above = (refl, refl, (refl, refl, tt));
         layer = refl;
-        each-odds = are_64 (four ++ four ++ four) refl;
+        each_odds = are_64 (four ++ four ++ four) refl;
       };
       pairs_needed = (refl, refl);
       axis_fails = (refl, refl);
@@ -149,6 +149,6 @@ needed =
       other-nan-broken = refl;
       bytes_read = refl;
       bytes_needed = refl;
-      nothing-broken = refl;
+      nothing_broken = refl;
       end-broken = (refl, refl);
     }

@@ -190,7 +190,7 @@ answer_by_ceiling_one = ceiling_one (beside set_answer_injective plain)
 pub MarkedAt-one : (f : Format) (occupied : Bool) (s : Marks.Steps) (frame at : ℕ) (odds : List Float) (stamps : List ℕ)
     → OneAnswer (λ (a : Bool × (List Float × List ℕ)). MarkedAt f occupied s frame at odds stamps a.0 a.1.0 a.1.1)
 MarkedAt-one f occupied s frame at odds stamps a b p q =
-    pair (p.answer ∙ sym q.answer) (pair (p.odds-now ∙ sym q.odds-now) (p.stamps-now ∙ sym q.stamps-now))
+    pair (p.answer ∙ sym q.answer) (pair (p.odds_now ∙ sym q.odds_now) (p.stamps_now ∙ sym q.stamps_now))
 
 pub Applied-one : (f : Format) (xs : List Mark) (m : Rules.Model) (frame : ℕ) (odds : List Float) (stamps : List ℕ)
     → OneAnswer (λ (a : ℕ × (List Float × List ℕ)). Applied f xs m frame odds stamps a.0 a.1.0 a.1.1)
@@ -201,5 +201,5 @@ pub Beamed-one : (i : Integrated) (frame : ℕ) (stamps : List ℕ)
 Beamed-one i frame stamps a b p q = integrated_of-one i a b p.is q.is
 
 -- a fact of what is handed over, and nothing answered
-pub nothing-one : {Fact : Type 0} → OneAnswer (λ (t : Unit {0}). Fact)
-nothing-one a b p q = refl
+pub nothing_one : {Fact : Type 0} → OneAnswer (λ (t : Unit {0}). Fact)
+nothing_one a b p q = refl

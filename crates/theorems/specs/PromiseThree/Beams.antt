@@ -22,12 +22,12 @@ marks_given (given xs) = xs
 marks_given (refused r) = []
 
 abbrev pub all_marks : {A : Type 0} → (A → Answer (List Mark)) → List A → List Mark
-all_marks marksOf [] = []
-all_marks marksOf (b ∷ bs) = marks_given (marksOf b) ++ all_marks marksOf bs
+all_marks marks_of [] = []
+all_marks marks_of (b ∷ bs) = marks_given (marks_of b) ++ all_marks marks_of bs
 
 -- none of the beams is refused
 abbrev pub Taken : {A : Type 0} → (A → Answer (List Mark)) → List A → Type 0
-Taken {A} marksOf bs = (b : A) → Memᴰ b bs → (xs : List Mark) × (marksOf b ≡ given xs)
+Taken {A} marks_of bs = (b : A) → Memᴰ b bs → (xs : List Mark) × (marks_of b ≡ given xs)
 
 -- ---- the grid after a list of beams is the grid after their marks
 module _ (f : Format) (es : List ℕ) (m : Model) (k : ℕ) where
@@ -61,38 +61,38 @@ module _ (f : Format) (es : List ℕ) (m : Model) (k : ℕ) where
   grid_is bs g t = (grid-from 0 0 bs g t).1
 
 -- ---- a mark of the list is a mark of a beam
-module _ {A : Type 0} (marksOf : A → Answer (List Mark)) where
-  makes_mem : (bs : List A) (x : Mark) → Makes marksOf bs x → Memᴰ x (all_marks marksOf bs)
+module _ {A : Type 0} (marks_of : A → Answer (List Mark)) where
+  makes_mem : (bs : List A) (x : Mark) → Makes marks_of bs x → Memᴰ x (all_marks marks_of bs)
   makes_mem bs x w = find bs w.among
     where
-      find : (bs : List A) → Memᴰ w.giver bs → Memᴰ x (all_marks marksOf bs)
+      find : (bs : List A) → Memᴰ w.giver bs → Memᴰ x (all_marks marks_of bs)
       find [] d = absurd (Memᴰ.not-nil d)
       find (c ∷ bs) d = go (Memᴰ.cases_cons d) (find bs)
         where
-          mine : Memᴰ x (marks_given (marksOf w.giver))
+          mine : Memᴰ x (marks_given (marks_of w.giver))
           mine = subst (λ (a : Answer (List Mark)). Memᴰ x (marks_given a)) (sym w.its_marks) w.one_of_them
 
-          go : (w.giver ≡ c) ⊎ Memᴰ w.giver bs → (Memᴰ w.giver bs → Memᴰ x (all_marks marksOf bs)) → Memᴰ x (all_marks marksOf (c ∷ bs))
-          go (inl p) ih = Memᴰ.append_left (all_marks marksOf bs) (subst (λ (z : A). Memᴰ x (marks_given (marksOf z))) p mine)
-          go (inr p) ih = Memᴰ.append_right (marks_given (marksOf c)) (ih p)
+          go : (w.giver ≡ c) ⊎ Memᴰ w.giver bs → (Memᴰ w.giver bs → Memᴰ x (all_marks marks_of bs)) → Memᴰ x (all_marks marks_of (c ∷ bs))
+          go (inl p) ih = Memᴰ.append_left (all_marks marks_of bs) (subst (λ (z : A). Memᴰ x (marks_given (marks_of z))) p mine)
+          go (inr p) ih = Memᴰ.append_right (marks_given (marks_of c)) (ih p)
 
-  mem_makes : (bs : List A) (x : Mark) → Memᴰ x (all_marks marksOf bs) → Makes marksOf bs x
+  mem_makes : (bs : List A) (x : Mark) → Memᴰ x (all_marks marks_of bs) → Makes marks_of bs x
   mem_makes [] x d = absurd (Memᴰ.not-nil d)
-  mem_makes (b ∷ bs) x d = go (marksOf b) refl (Memᴰ.append_cases (marks_given (marksOf b)) d) (mem_makes bs x)
+  mem_makes (b ∷ bs) x d = go (marks_of b) refl (Memᴰ.append_cases (marks_given (marks_of b)) d) (mem_makes bs x)
     where
-      later : Makes marksOf bs x → Makes marksOf (b ∷ bs) x
+      later : Makes marks_of bs x → Makes marks_of (b ∷ bs) x
       later w = record { giver = w.giver; among = Memᴰ.tail w.among; marks = w.marks; its_marks = w.its_marks; one_of_them = w.one_of_them }
 
-      here : (a : Answer (List Mark)) → marksOf b ≡ a → Memᴰ x (marks_given a) → Makes marksOf (b ∷ bs) x
+      here : (a : Answer (List Mark)) → marks_of b ≡ a → Memᴰ x (marks_given a) → Makes marks_of (b ∷ bs) x
       here (given xs) e d = record { giver = b; among = Memᴰ.head refl; marks = xs; its_marks = e; one_of_them = d }
       here (refused r) e d = absurd (Memᴰ.not-nil d)
 
-      go : (a : Answer (List Mark)) → marksOf b ≡ a → Memᴰ x (marks_given (marksOf b)) ⊎ Memᴰ x (all_marks marksOf bs)
-          → (Memᴰ x (all_marks marksOf bs) → Makes marksOf bs x) → Makes marksOf (b ∷ bs) x
-      go a e (inl d) ih = here (marksOf b) refl d
+      go : (a : Answer (List Mark)) → marks_of b ≡ a → Memᴰ x (marks_given (marks_of b)) ⊎ Memᴰ x (all_marks marks_of bs)
+          → (Memᴰ x (all_marks marks_of bs) → Makes marks_of bs x) → Makes marks_of (b ∷ bs) x
+      go a e (inl d) ih = here (marks_of b) refl d
       go a e (inr d) ih = later (ih d)
 
-  pub makes_same : (bs cs : List A) (x : Mark) → ((b : A) → Memᴰ b bs → Memᴰ b cs) → Makes marksOf bs x → Makes marksOf cs x
+  pub makes_same : (bs cs : List A) (x : Mark) → ((b : A) → Memᴰ b bs → Memᴰ b cs) → Makes marks_of bs x → Makes marks_of cs x
   makes_same bs cs x t w = record { giver = w.giver; among = t w.giver w.among; marks = w.marks; its_marks = w.its_marks; one_of_them = w.one_of_them }
 
 -- ---- whether a cell has a mark of a kind, as a test and as a mark of the list
@@ -102,9 +102,9 @@ on i b = record { place = i; occupied = b }
 on_is : (i : ℕ) (b : Bool) (x : Mark) → x.place ≡ i → x.occupied ≡ b → on i b ≡ x
 on_is i b x p q = λ u. record { place = sym p u; occupied = sym q u }
 
-cloud-mem : (i : ℕ) (xs : List Mark) → T (any_cloud (kinds_on i xs)) → Memᴰ (on i true) xs
-cloud-mem i [] t = absurd t
-cloud-mem i (x ∷ xs) t = go (eqb x.place i) (eqb→eq x.place i) (cloud-mem i xs) t
+cloud_mem : (i : ℕ) (xs : List Mark) → T (any_cloud (kinds_on i xs)) → Memᴰ (on i true) xs
+cloud_mem i [] t = absurd t
+cloud_mem i (x ∷ xs) t = go (eqb x.place i) (eqb→eq x.place i) (cloud_mem i xs) t
   where
     go : (b : Bool) → (T b → x.place ≡ i) → (T (any_cloud (kinds_on i xs)) → Memᴰ (on i true) xs)
         → T (any_cloud (cond b (x.occupied ∷ kinds_on i xs) (kinds_on i xs))) → Memᴰ (on i true) (x ∷ xs)
@@ -140,27 +140,27 @@ mem_test i b test now later (x ∷ xs) d = go (Memᴰ.cases_cons d) (mem_test i 
         (subst (λ (t : Bool). T (test (cond t (b ∷ kinds_on i xs) (kinds_on i xs)))) (sym (eq-eqb i i refl)) (now (kinds_on i xs)))
     go (inr e) ih = skip (eqb x.place i) (ih e)
 
-mem-cloud : (i : ℕ) (xs : List Mark) → Memᴰ (on i true) xs → T (any_cloud (kinds_on i xs))
-mem-cloud i xs d = mem_test i true any_cloud (λ bs. tt) (λ c bs t. or_r c (any_cloud bs) t) xs d
+mem_cloud : (i : ℕ) (xs : List Mark) → Memᴰ (on i true) xs → T (any_cloud (kinds_on i xs))
+mem_cloud i xs d = mem_test i true any_cloud (λ bs. tt) (λ c bs t. or_r c (any_cloud bs) t) xs d
 
 mem_mark : (i : ℕ) (b : Bool) (xs : List Mark) → Memᴰ (on i b) xs → T (any_mark (kinds_on i xs))
 mem_mark i b xs d = mem_test i b any_mark (λ bs. tt) (λ c bs t. tt) xs d
 
 -- ---- hit and touched, as tests
-module _ {A : Type 0} (marksOf : A → Answer (List Mark)) (bs : List A) (i : ℕ) where
+module _ {A : Type 0} (marks_of : A → Answer (List Mark)) (bs : List A) (i : ℕ) where
   abbrev kinds : List Bool
-  kinds = kinds_on i (all_marks marksOf bs)
+  kinds = kinds_on i (all_marks marks_of bs)
 
-  pub hit_test : Hit marksOf bs i → T (any_cloud kinds)
-  hit_test w = mem-cloud i (all_marks marksOf bs) (makes_mem marksOf bs (record { place = i; occupied = true }) w)
+  pub hit_test : Hit marks_of bs i → T (any_cloud kinds)
+  hit_test w = mem_cloud i (all_marks marks_of bs) (makes_mem marks_of bs (record { place = i; occupied = true }) w)
 
-  pub test_hit : T (any_cloud kinds) → Hit marksOf bs i
-  test_hit t = mem_makes marksOf bs (record { place = i; occupied = true }) (cloud-mem i (all_marks marksOf bs) t)
+  pub test_hit : T (any_cloud kinds) → Hit marks_of bs i
+  test_hit t = mem_makes marks_of bs (record { place = i; occupied = true }) (cloud_mem i (all_marks marks_of bs) t)
 
-  pub touched_test : Touched marksOf bs i → T (any_mark kinds)
-  touched_test w = mem_mark i w.0 (all_marks marksOf bs) (makes_mem marksOf bs (record { place = i; occupied = w.0 }) w.1)
+  pub touched_test : Touched marks_of bs i → T (any_mark kinds)
+  touched_test w = mem_mark i w.0 (all_marks marks_of bs) (makes_mem marks_of bs (record { place = i; occupied = w.0 }) w.1)
 
-  pub test_touched : T (any_mark kinds) → Touched marksOf bs i
+  pub test_touched : T (any_mark kinds) → Touched marks_of bs i
   test_touched t =
-      let r = mark_mem i (all_marks marksOf bs) t in
-      (r.0, mem_makes marksOf bs (record { place = i; occupied = r.0 }) r.1)
+      let r = mark_mem i (all_marks marks_of bs) t in
+      (r.0, mem_makes marks_of bs (record { place = i; occupied = r.0 }) r.1)

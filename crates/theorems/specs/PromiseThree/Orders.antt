@@ -96,25 +96,25 @@ module _ (f : Format) (s : Steps) (k : ℕ) where
         ∙ ap (λ (d : Float). record { odds = occupy f s c.odds d; stamp = stamp_of k true }) (alone_step c (λ g. new (of_frame false c.stamp g)))
 
   -- many marks
-  runs-cloud : (bs : List Bool) (c : Cell) → c.stamp ≡ stamp_of k true → runs f s k bs c ≡ c
+  runs_cloud : (bs : List Bool) (c : Cell) → c.stamp ≡ stamp_of k true → runs f s k bs c ≡ c
   unfolding runs
-  runs-cloud [] c e = refl
-  runs-cloud (b ∷ bs) c e = ap (λ (x : Cell). runs f s k bs x) (left-cloud b c e) ∙ runs-cloud bs c e
+  runs_cloud [] c e = refl
+  runs_cloud (b ∷ bs) c e = ap (λ (x : Cell). runs f s k bs x) (left-cloud b c e) ∙ runs_cloud bs c e
 
-  runs-clear : (bs : List Bool) (c : Cell) → c.stamp ≡ stamp_of k false → runs f s k bs c ≡ cond (any_cloud bs) (restored c.odds) c
+  runs_clear : (bs : List Bool) (c : Cell) → c.stamp ≡ stamp_of k false → runs f s k bs c ≡ cond (any_cloud bs) (restored c.odds) c
   unfolding runs
-  runs-clear [] c e = refl
-  runs-clear (false ∷ bs) c e = ap (λ (x : Cell). runs f s k bs x) (left-clear c e) ∙ runs-clear bs c e
-  runs-clear (true ∷ bs) c e = ap (λ (x : Cell). runs f s k bs x) (taken_back_lem c e) ∙ runs-cloud bs (restored c.odds) refl
+  runs_clear [] c e = refl
+  runs_clear (false ∷ bs) c e = ap (λ (x : Cell). runs f s k bs x) (left-clear c e) ∙ runs_clear bs c e
+  runs_clear (true ∷ bs) c e = ap (λ (x : Cell). runs f s k bs x) (taken_back_lem c e) ∙ runs_cloud bs (restored c.odds) refl
 
   module _ (c : Cell) (new : ¬ (frame_of c.stamp ≡ k)) where
-    pub runs-first-clear : (bs : List Bool) → runs f s k (false ∷ bs) c ≡ cond (any_cloud bs) (restored (freed f s c.odds)) (cleared c.odds)
+    pub runs_first_clear : (bs : List Bool) → runs f s k (false ∷ bs) c ≡ cond (any_cloud bs) (restored (freed f s c.odds)) (cleared c.odds)
     unfolding runs
-    runs-first-clear bs = ap (λ (x : Cell). runs f s k bs x) (new_clear c new) ∙ runs-clear bs (cleared c.odds) refl
+    runs_first_clear bs = ap (λ (x : Cell). runs f s k bs x) (new_clear c new) ∙ runs_clear bs (cleared c.odds) refl
 
-    pub runs-first-cloud : (bs : List Bool) → runs f s k (true ∷ bs) c ≡ clouded c.odds
+    pub runs_first_cloud : (bs : List Bool) → runs f s k (true ∷ bs) c ≡ clouded c.odds
     unfolding runs
-    runs-first-cloud bs = ap (λ (x : Cell). runs f s k bs x) (new_cloud c new) ∙ runs-cloud bs (clouded c.odds) refl
+    runs_first_cloud bs = ap (λ (x : Cell). runs f s k bs x) (new_cloud c new) ∙ runs_cloud bs (clouded c.odds) refl
 
 -- ---- the whole grid: cell i sees only the marks on it
 abbrev pub kinds_on : ℕ → List Mark → List Bool
@@ -178,7 +178,7 @@ module _ (f : Format) (s : Steps) (k : ℕ) (c : Cell) (new : ¬ (frame_of c.sta
   pub clear_marks : (bs : List Bool) → T (any_mark bs) → ¬ T (any_cloud bs) → runs f s k bs c ≡ cleared f s k c.odds
   clear_marks [] t n = absurd t
   clear_marks (true ∷ bs) t n = absurd (n tt)
-  clear_marks (false ∷ bs) t n = runs-first-clear f s k c new bs ∙ go (any_cloud bs) n
+  clear_marks (false ∷ bs) t n = runs_first_clear f s k c new bs ∙ go (any_cloud bs) n
     where
       go : (b : Bool) → ¬ T b → cond b (restored f s k (freed f s c.odds)) (cleared f s k c.odds) ≡ cleared f s k c.odds
       go true n = absurd (n tt)
@@ -186,8 +186,8 @@ module _ (f : Format) (s : Steps) (k : ℕ) (c : Cell) (new : ¬ (frame_of c.sta
 
   pub cloud_marks : (bs : List Bool) → T (any_cloud bs) → (runs f s k bs c ≡ clouded f s k c.odds) ⊎ (runs f s k bs c ≡ restored f s k (freed f s c.odds))
   cloud_marks [] t = absurd t
-  cloud_marks (true ∷ bs) t = inl (runs-first-cloud f s k c new bs)
-  cloud_marks (false ∷ bs) t = inr (runs-first-clear f s k c new bs ∙ go (any_cloud bs) t)
+  cloud_marks (true ∷ bs) t = inl (runs_first_cloud f s k c new bs)
+  cloud_marks (false ∷ bs) t = inr (runs_first_clear f s k c new bs ∙ go (any_cloud bs) t)
     where
       go : (b : Bool) → T b → cond b (restored f s k (freed f s c.odds)) (cleared f s k c.odds) ≡ restored f s k (freed f s c.odds)
       go true t = refl
@@ -195,8 +195,8 @@ module _ (f : Format) (s : Steps) (k : ℕ) (c : Cell) (new : ¬ (frame_of c.sta
 
   pub stamp_is : (bs : List Bool) → (runs f s k bs c).stamp ≡ cond (any_cloud bs) (stamp_of k true) (cond (any_mark bs) (stamp_of k false) c.stamp)
   stamp_is [] = unfold runs in refl
-  stamp_is (true ∷ bs) = ap (λ (x : Cell). x.stamp) (runs-first-cloud f s k c new bs)
-  stamp_is (false ∷ bs) = ap (λ (x : Cell). x.stamp) (runs-first-clear f s k c new bs) ∙ go (any_cloud bs)
+  stamp_is (true ∷ bs) = ap (λ (x : Cell). x.stamp) (runs_first_cloud f s k c new bs)
+  stamp_is (false ∷ bs) = ap (λ (x : Cell). x.stamp) (runs_first_clear f s k c new bs) ∙ go (any_cloud bs)
     where
       go : (b : Bool) → (cond b (restored f s k (freed f s c.odds)) (cleared f s k c.odds)).stamp ≡ cond b (stamp_of k true) (stamp_of k false)
       go true = refl
@@ -206,8 +206,8 @@ module _ (f : Format) (s : Steps) (k : ℕ) (c : Cell) (new : ¬ (frame_of c.sta
   pub odds_are : taken_back f s (freed f s c.odds) ≡ alone f s c.odds → (bs : List Bool)
       → (runs f s k bs c).odds ≡ cond (any_cloud bs) (alone f s c.odds) (cond (any_mark bs) (freed f s c.odds) c.odds)
   odds_are x [] = unfold runs in refl
-  odds_are x (true ∷ bs) = ap (λ (y : Cell). y.odds) (runs-first-cloud f s k c new bs)
-  odds_are x (false ∷ bs) = ap (λ (y : Cell). y.odds) (runs-first-clear f s k c new bs) ∙ go (any_cloud bs)
+  odds_are x (true ∷ bs) = ap (λ (y : Cell). y.odds) (runs_first_cloud f s k c new bs)
+  odds_are x (false ∷ bs) = ap (λ (y : Cell). y.odds) (runs_first_clear f s k c new bs) ∙ go (any_cloud bs)
     where
       go : (b : Bool) → (cond b (restored f s k (freed f s c.odds)) (cleared f s k c.odds)).odds ≡ cond b (alone f s c.odds) (freed f s c.odds)
       go true = x

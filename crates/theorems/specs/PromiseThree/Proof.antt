@@ -21,19 +21,19 @@ use Rattle.theorems.specs.PromiseThree.OneCell.{exact}
 use Rattle.theorems.specs.PromiseThree.{frame_opened, grid_opened, sweep, Hit, Touched, Same, Opened, Sweep, Multiples, cloud_alone, cloud_after_clear, Ends, Settled}
 
 -- ---- permutations and repeats are the same beams
-perm-mem : {A : Type 0} {bs cs : List A} (b : A) → Permᴰ bs cs → Memᴰ b bs → Memᴰ b cs
-perm-mem b Permᴰ.nil d = d
-perm-mem b (Permᴰ.cons e p) d = elim (Memᴰ.cases_cons d) [ inl w ↦ Memᴰ.head (w ∙ e) | inr w ↦ Memᴰ.tail (perm-mem b p w) ]
-perm-mem b (Permᴰ.swap e g) d =
+perm_mem : {A : Type 0} {bs cs : List A} (b : A) → Permᴰ bs cs → Memᴰ b bs → Memᴰ b cs
+perm_mem b Permᴰ.nil d = d
+perm_mem b (Permᴰ.cons e p) d = elim (Memᴰ.cases_cons d) [ inl w ↦ Memᴰ.head (w ∙ e) | inr w ↦ Memᴰ.tail (perm_mem b p w) ]
+perm_mem b (Permᴰ.swap e g) d =
     elim (Memᴰ.cases_cons d) [
       | inl w ↦ Memᴰ.tail (Memᴰ.head (w ∙ e))
       | inr w ↦
           elim (Memᴰ.cases_cons w) [ inl v ↦ Memᴰ.head (v ∙ g) | inr v ↦ Memᴰ.tail (Memᴰ.tail v) ]
     ]
-perm-mem b (Permᴰ.trans p q) d = perm-mem b q (perm-mem b p d)
+perm_mem b (Permᴰ.trans p q) d = perm_mem b q (perm_mem b p d)
 
 pub permuted : {A : Type 0} (bs cs : List A) → Permᴰ bs cs → Same bs cs
-permuted bs cs p = record { there = λ b d. perm-mem b p d; back = λ b d. perm-mem b (Permᴰ.symm p) d }
+permuted bs cs p = record { there = λ b d. perm_mem b p d; back = λ b d. perm_mem b (Permᴰ.symm p) d }
 
 pub repeated : {A : Type 0} (b : A) (bs : List A) → Memᴰ b bs → Same bs (b ∷ bs)
 repeated {A} b bs m =
@@ -48,12 +48,12 @@ opened-length k stamps = go (leb highest_frame k)
     go false = refl
 
 -- ---- the grid after the marks of whatever was handed over, on the opened grid
-module _ {A : Type 0} (f : Format) (h : Head) (g : Grid) (p : Opened h g) (marksOf : A → Answer (List Mark)) where
-  abbrev pub marksLeave : List A → Grid
-  marksLeave cs = marked f h.model (frame_opened h) (all_marks marksOf cs) (grid_opened h g)
+module _ {A : Type 0} (f : Format) (h : Head) (g : Grid) (p : Opened h g) (marks_of : A → Answer (List Mark)) where
+  abbrev pub marks_leave : List A → Grid
+  marks_leave cs = marked f h.model (frame_opened h) (all_marks marks_of cs) (grid_opened h g)
 
   abbrev kinds : ℕ → List A → List Bool
-  kinds i cs = kinds_on i (all_marks marksOf cs)
+  kinds i cs = kinds_on i (all_marks marks_of cs)
 
   sized : Sized (cells h.extents) (grid_opened h g)
   unfolding one_per_cell
@@ -65,26 +65,26 @@ module _ {A : Type 0} (f : Format) (h : Head) (g : Grid) (p : Opened h g) (marks
 
   -- each cell after a list
   cell-after : (cs : List A) (i : ℕ) → i < cells h.extents
-      → cell_at (marksLeave cs) i ≡ runs f (steps_at h.model i) (frame_opened h) (kinds i cs) (cell_at (grid_opened h g) i)
-  cell-after cs i l = marked-cell f h.model (frame_opened h) (all_marks marksOf cs) (grid_opened h g) (cells h.extents) i sized l
+      → cell_at (marks_leave cs) i ≡ runs f (steps_at h.model i) (frame_opened h) (kinds i cs) (cell_at (grid_opened h g) i)
+  cell-after cs i l = marked-cell f h.model (frame_opened h) (all_marks marks_of cs) (grid_opened h g) (cells h.extents) i sized l
 
-  after-sized : (cs : List A) → Sized (cells h.extents) (marksLeave cs)
-  after-sized cs = marked_sized f h.model (frame_opened h) (all_marks marksOf cs) (grid_opened h g) (cells h.extents) sized
+  after_sized : (cs : List A) → Sized (cells h.extents) (marks_leave cs)
+  after_sized cs = marked_sized f h.model (frame_opened h) (all_marks marks_of cs) (grid_opened h g) (cells h.extents) sized
 
   module _ (bs : List A) where
     -- how the cells end
-    clear-cell : (i : ℕ) → i < cells h.extents → Touched marksOf bs i → ¬ Hit marksOf bs i
-        → cell_at (marksLeave bs) i ≡ cleared f (steps_at h.model i) (frame_opened h) (get_or g.odds i nan)
+    clear-cell : (i : ℕ) → i < cells h.extents → Touched marks_of bs i → ¬ Hit marks_of bs i
+        → cell_at (marks_leave bs) i ≡ cleared f (steps_at h.model i) (frame_opened h) (get_or g.odds i nan)
     clear-cell i l w z =
         cell-after bs i l
         ∙ clear_marks f (steps_at h.model i) (frame_opened h) (cell_at (grid_opened h g) i) (p.unstamped i l) (kinds i bs)
-        (touched_test marksOf bs i w) (λ t. z (test_hit marksOf bs i t))
+        (touched_test marks_of bs i w) (λ t. z (test_hit marks_of bs i t))
 
-    cloud-cell : (i : ℕ) → i < cells h.extents → Hit marksOf bs i
-        → (cell_at (marksLeave bs) i ≡ clouded f (steps_at h.model i) (frame_opened h) (get_or g.odds i nan))
-        ⊎ (cell_at (marksLeave bs) i ≡ restored f (steps_at h.model i) (frame_opened h) (freed f (steps_at h.model i) (get_or g.odds i nan)))
+    cloud-cell : (i : ℕ) → i < cells h.extents → Hit marks_of bs i
+        → (cell_at (marks_leave bs) i ≡ clouded f (steps_at h.model i) (frame_opened h) (get_or g.odds i nan))
+        ⊎ (cell_at (marks_leave bs) i ≡ restored f (steps_at h.model i) (frame_opened h) (freed f (steps_at h.model i) (get_or g.odds i nan)))
     cloud-cell i l w =
-        go (cloud_marks f (steps_at h.model i) (frame_opened h) (cell_at (grid_opened h g) i) (p.unstamped i l) (kinds i bs) (hit_test marksOf bs i w))
+        go (cloud_marks f (steps_at h.model i) (frame_opened h) (cell_at (grid_opened h g) i) (p.unstamped i l) (kinds i bs) (hit_test marks_of bs i w))
       where
         s : Steps
         s = steps_at h.model i
@@ -96,16 +96,16 @@ module _ {A : Type 0} (f : Format) (h : Head) (g : Grid) (p : Opened h g) (marks
         c = runs f s (frame_opened h) (kinds i bs) (cell_at (grid_opened h g) i)
 
         go : (c ≡ clouded f s (frame_opened h) o) ⊎ (c ≡ restored f s (frame_opened h) (freed f s o))
-            → (cell_at (marksLeave bs) i ≡ clouded f s (frame_opened h) o) ⊎ (cell_at (marksLeave bs) i ≡ restored f s (frame_opened h) (freed f s o))
+            → (cell_at (marks_leave bs) i ≡ clouded f s (frame_opened h) o) ⊎ (cell_at (marks_leave bs) i ≡ restored f s (frame_opened h) (freed f s o))
         go (inl e) = inl (cell-after bs i l ∙ e)
         go (inr e) = inr (cell-after bs i l ∙ e)
 
-    cloud-stamp : (i : ℕ) → i < cells h.extents → Hit marksOf bs i → (cell_at (marksLeave bs) i).stamp ≡ stamp_of (frame_opened h) true
-    cloud-stamp i l w = elim (cloud-cell i l w) [ inl e ↦ ap (λ (c : Cell). c.stamp) e | inr e ↦ ap (λ (c : Cell). c.stamp) e ]
+    cloud_stamp : (i : ℕ) → i < cells h.extents → Hit marks_of bs i → (cell_at (marks_leave bs) i).stamp ≡ stamp_of (frame_opened h) true
+    cloud_stamp i l w = elim (cloud-cell i l w) [ inl e ↦ ap (λ (c : Cell). c.stamp) e | inr e ↦ ap (λ (c : Cell). c.stamp) e ]
 
-    cloud-odds : (i : ℕ) → i < cells h.extents → Hit marksOf bs i
-        → ((cell_at (marksLeave bs) i).odds ≡ cloud_alone f (steps_at h.model i) (get_or g.odds i nan))
-        ⊎ ((cell_at (marksLeave bs) i).odds ≡ cloud_after_clear f (steps_at h.model i) (frame_opened h) (get_or g.odds i nan))
+    cloud-odds : (i : ℕ) → i < cells h.extents → Hit marks_of bs i
+        → ((cell_at (marks_leave bs) i).odds ≡ cloud_alone f (steps_at h.model i) (get_or g.odds i nan))
+        ⊎ ((cell_at (marks_leave bs) i).odds ≡ cloud_after_clear f (steps_at h.model i) (frame_opened h) (get_or g.odds i nan))
     cloud-odds i l w =
         let s = steps_at h.model i in
         let o = freed f s (get_or g.odds i nan) in
@@ -115,14 +115,14 @@ module _ {A : Type 0} (f : Format) (h : Head) (g : Grid) (p : Opened h g) (marks
               ∙ sym (ap (λ (d : Float). occupy f s o d) (back_step f s (frame_opened h) (record { odds = o; stamp = stamp_of (frame_opened h) false }) refl)))
         ]
 
-    pub ends : Ends f h g marksOf bs (marksLeave bs)
+    pub ends : Ends f h g marks_of bs (marks_leave bs)
     ends =
         record {
-          hit_stamp = cloud-stamp;
+          hit_stamp = cloud_stamp;
           clear_stamp = λ i l w z. ap (λ (c : Cell). c.stamp) (clear-cell i l w z);
           untouched =
               λ i l z. cell-after bs i l ∙ no_marks f (steps_at h.model i) (frame_opened h) (cell_at (grid_opened h g) i) (p.unstamped i l)
-              (kinds i bs) (λ t. z (test_touched marksOf bs i t));
+              (kinds i bs) (λ t. z (test_touched marks_of bs i t));
           clear-odds = λ i l w z. ap (λ (c : Cell). c.odds) (clear-cell i l w z);
           cloud-odds = cloud-odds;
         }
@@ -132,69 +132,69 @@ module _ {A : Type 0} (f : Format) (h : Head) (g : Grid) (p : Opened h g) (marks
       cloud-same : (i : ℕ) → any_cloud (kinds i bs) ≡ any_cloud (kinds i cs)
       cloud-same i =
           let x : Mark = record { place = i; occupied = true } in
-          bool_ext (any_cloud (kinds i bs)) (any_cloud (kinds i cs)) (λ t. hit_test marksOf cs i (makes_same marksOf bs cs x e.there (test_hit marksOf bs i t)))
-          (λ t. hit_test marksOf bs i (makes_same marksOf cs bs x e.back (test_hit marksOf cs i t)))
+          bool_ext (any_cloud (kinds i bs)) (any_cloud (kinds i cs)) (λ t. hit_test marks_of cs i (makes_same marks_of bs cs x e.there (test_hit marks_of bs i t)))
+          (λ t. hit_test marks_of bs i (makes_same marks_of cs bs x e.back (test_hit marks_of cs i t)))
 
-      mark-same : (i : ℕ) → any_mark (kinds i bs) ≡ any_mark (kinds i cs)
-      mark-same i =
+      mark_same : (i : ℕ) → any_mark (kinds i bs) ≡ any_mark (kinds i cs)
+      mark_same i =
           bool_ext (any_mark (kinds i bs)) (any_mark (kinds i cs))
-          (λ t. let w = test_touched marksOf bs i t in
-          touched_test marksOf cs i (w.0, makes_same marksOf bs cs (record { place = i; occupied = w.0 }) e.there w.1))
-          (λ t. let w = test_touched marksOf cs i t in
-          touched_test marksOf bs i (w.0, makes_same marksOf cs bs (record { place = i; occupied = w.0 }) e.back w.1))
+          (λ t. let w = test_touched marks_of bs i t in
+          touched_test marks_of cs i (w.0, makes_same marks_of bs cs (record { place = i; occupied = w.0 }) e.there w.1))
+          (λ t. let w = test_touched marks_of cs i t in
+          touched_test marks_of bs i (w.0, makes_same marks_of cs bs (record { place = i; occupied = w.0 }) e.back w.1))
 
-      pub stamps-same : (marksLeave bs).stamps ≡ (marksLeave cs).stamps
+      pub stamps-same : (marks_leave bs).stamps ≡ (marks_leave cs).stamps
       stamps-same =
-          let a = after-sized bs in
-          let b = after-sized cs in
-          ext_get_or 0 (marksLeave bs).stamps (marksLeave cs).stamps (a.stamps ∙ sym b.stamps)
+          let a = after_sized bs in
+          let b = after_sized cs in
+          ext_get_or 0 (marks_leave bs).stamps (marks_leave cs).stamps (a.stamps ∙ sym b.stamps)
           (λ i q. let l : i < cells h.extents = omega (arith, a.stamps) in
           let s = steps_at h.model i in
           let c = cell_at (grid_opened h g) i in
           ap (λ (x : Cell). x.stamp) (cell-after bs i l) ∙ stamp_is f s (frame_opened h) c (p.unstamped i l) (kinds i bs)
-          ∙ ap₂ (λ (u v : Bool). cond u (stamp_of (frame_opened h) true) (cond v (stamp_of (frame_opened h) false) c.stamp)) (cloud-same i) (mark-same i)
+          ∙ ap₂ (λ (u v : Bool). cond u (stamp_of (frame_opened h) true) (cond v (stamp_of (frame_opened h) false) c.stamp)) (cloud-same i) (mark_same i)
           ∙ sym (ap (λ (x : Cell). x.stamp) (cell-after cs i l) ∙ stamp_is f s (frame_opened h) c (p.unstamped i l) (kinds i cs)))
 
-      pub odds-same : Multiples f h g → (marksLeave bs).odds ≡ (marksLeave cs).odds
+      pub odds-same : Multiples f h g → (marks_leave bs).odds ≡ (marks_leave cs).odds
       odds-same m =
-          let a = after-sized bs in
-          let b = after-sized cs in
-          ext_get_or nan (marksLeave bs).odds (marksLeave cs).odds (a.odds ∙ sym b.odds)
+          let a = after_sized bs in
+          let b = after_sized cs in
+          ext_get_or nan (marks_leave bs).odds (marks_leave cs).odds (a.odds ∙ sym b.odds)
           (λ i q. let l : i < cells h.extents = omega (arith, a.odds) in
           let s = steps_at h.model i in
           let c = cell_at (grid_opened h g) i in
           let x = exact f h.model i c.odds p.model m.model (p.within i l) (m.odds i l) (m.clear_of_floor_lem i l) in
           ap (λ (y : Cell). y.odds) (cell-after bs i l) ∙ odds_are f s (frame_opened h) c (p.unstamped i l) x (kinds i bs)
-          ∙ ap₂ (λ (u v : Bool). cond u (alone f s c.odds) (cond v (freed f s c.odds) c.odds)) (cloud-same i) (mark-same i)
+          ∙ ap₂ (λ (u v : Bool). cond u (alone f s c.odds) (cond v (freed f s c.odds) c.odds)) (cloud-same i) (mark_same i)
           ∙ sym (ap (λ (y : Cell). y.odds) (cell-after cs i l) ∙ odds_are f s (frame_opened h) c (p.unstamped i l) x (kinds i cs)))
 
 -- THE THEOREM
 module _ (f : Format) (h : Head) (g : Grid) (bs : List Beam) (p : Sweep f h g bs) where
-  abbrev marksOf : Beam → Answer (List Mark)
-  marksOf b = beam_marks f h.extents b
+  abbrev marks_of : Beam → Answer (List Mark)
+  marks_of b = beam_marks f h.extents b
 
-  list-leaves : (cs : List Beam) → Taken marksOf cs → (sweep f h g cs).grid ≡ marksLeave f h g p.opened marksOf cs
+  list-leaves : (cs : List Beam) → Taken marks_of cs → (sweep f h g cs).grid ≡ marks_leave f h g p.opened marks_of cs
   list-leaves cs t = grid_is f h.extents h.model (frame_opened h) cs (grid_opened h g) t
 
-  stamps-too : (cs : List Beam) → Same bs cs → (sweep f h g bs).grid.stamps ≡ (sweep f h g cs).grid.stamps
-  stamps-too cs e =
-      ap (λ (x : Grid). x.stamps) (list-leaves bs p.taken) ∙ stamps-same f h g p.opened marksOf bs cs e
+  stamps_too : (cs : List Beam) → Same bs cs → (sweep f h g bs).grid.stamps ≡ (sweep f h g cs).grid.stamps
+  stamps_too cs e =
+      ap (λ (x : Grid). x.stamps) (list-leaves bs p.taken) ∙ stamps-same f h g p.opened marks_of bs cs e
       ∙ ap (λ (x : Grid). x.stamps) (sym (list-leaves cs (λ b d. p.taken b (e.back b d))))
 
-  odds-too : Multiples f h g → (cs : List Beam) → Same bs cs → (sweep f h g bs).grid.odds ≡ (sweep f h g cs).grid.odds
-  odds-too m cs e =
-      ap (λ (x : Grid). x.odds) (list-leaves bs p.taken) ∙ odds-same f h g p.opened marksOf bs cs e m
+  odds_too : Multiples f h g → (cs : List Beam) → Same bs cs → (sweep f h g bs).grid.odds ≡ (sweep f h g cs).grid.odds
+  odds_too m cs e =
+      ap (λ (x : Grid). x.odds) (list-leaves bs p.taken) ∙ odds-same f h g p.opened marks_of bs cs e m
       ∙ ap (λ (x : Grid). x.odds) (sym (list-leaves cs (λ b d. p.taken b (e.back b d))))
 
-  pub promise-three : Settled f h g bs
-  promise-three =
+  pub promise_three : Settled f h g bs
+  promise_three =
       record {
         given_a_count = given_a_count f h.extents h.model (frame_opened h) bs (grid_opened h g) p.taken;
-        ends = subst (Ends f h g marksOf bs) (sym (list-leaves bs p.taken)) (ends f h g p.opened marksOf bs);
-        stamps-same = stamps-too;
-        stamps_permuted = λ cs q. stamps-too cs (permuted bs cs q);
-        stamps_repeated = λ b d. stamps-too (b ∷ bs) (repeated b bs d);
-        odds-same = odds-too;
-        odds_permuted = λ m cs q. odds-too m cs (permuted bs cs q);
-        odds_repeated = λ m b d. odds-too m (b ∷ bs) (repeated b bs d);
+        ends = subst (Ends f h g marks_of bs) (sym (list-leaves bs p.taken)) (ends f h g p.opened marks_of bs);
+        stamps-same = stamps_too;
+        stamps_permuted = λ cs q. stamps_too cs (permuted bs cs q);
+        stamps_repeated = λ b d. stamps_too (b ∷ bs) (repeated b bs d);
+        odds-same = odds_too;
+        odds_permuted = λ m cs q. odds_too m cs (permuted bs cs q);
+        odds_repeated = λ m b d. odds_too m (b ∷ bs) (repeated b bs d);
       }

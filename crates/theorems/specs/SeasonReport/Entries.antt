@@ -66,9 +66,9 @@ module _ (charts : ℕ) (report : List ℕ) (n m : ℕ) (first second : List ℕ
 given_is : (k j : ℕ) → given k ≡ given j → k ≡ j
 given_is k j e = cc
 
-night-by-night : (charts : ℕ) (report : List ℕ) (n m k : ℕ) (first second : List ℕ) → (add_charts_entry charts report n first).answer ≡ given k
+night_by_night : (charts : ℕ) (report : List ℕ) (n m k : ℕ) (first second : List ℕ) → (add_charts_entry charts report n first).answer ≡ given k
     → Alike (add_charts_entry charts report (n + m) (first ++ second)) (add_charts_entry k (add_charts_entry charts report n first).lent m second)
-night-by-night charts report n m k first second e =
+night_by_night charts report n m k first second e =
     let a = accepted charts report n first k e in
     let count : charts + n ≡ k = given_is (charts + n) k (sym (ap (λ o. o.answer) a.outcome) ∙ e) in
     rw (ap (λ o. o.lent) a.outcome, sym count) (added_twice charts report n m first second a)
@@ -119,8 +119,8 @@ module _ (charts : ℕ) (report : List ℕ) (more : ℕ) (other : List ℕ) wher
   unfolding join_reports_entry
   join_is = refl
 
-  nothing-joined : (r : Refusal) → (join_reports_entry charts report more other).answer ≡ refused r → (join_reports_entry charts report more other).lent ≡ report
-  nothing-joined r e = rw join_is (kept join_sizes (leb (charts + more) most_charts) join_good report join_sum (charts + more) r refl (rw join_is at e))
+  nothing_joined : (r : Refusal) → (join_reports_entry charts report more other).answer ≡ refused r → (join_reports_entry charts report more other).lent ≡ report
+  nothing_joined r e = rw join_is (kept join_sizes (leb (charts + more) most_charts) join_good report join_sum (charts + more) r refl (rw join_is at e))
 
 module _ (columns n m : ℕ) (first second : List ℕ) (e : (season columns n first).answer ≡ given n) (g : (season columns m second).answer ≡ given m) where
   abbrev A : List ℕ
@@ -138,11 +138,11 @@ module _ (columns n m : ℕ) (first second : List ℕ) (e : (season columns n fi
   size_of_A : length A ≡ 12 * report_columns (length A)
   size_of_A = run_length columns n first ∙ ap (λ (k : ℕ). 12 * k) (sym columns_of_A)
 
-  join-sizes : join_sizes n A m B ≡ true
-  join-sizes = holds _ (and_i (is_report (length A)) _ (eq→eqb size_of_A) (eq→eqb (run_length columns m second ∙ sym (run_length columns n first))))
+  join_sizes_lem : join_sizes n A m B ≡ true
+  join_sizes_lem = holds _ (and_i (is_report (length A)) _ (eq→eqb size_of_A) (eq→eqb (run_length columns m second ∙ sym (run_length columns n first))))
 
-  join-good : join_good n A m B ≡ true
-  join-good =
+  join_good_lem : join_good n A m B ≡ true
+  join_good_lem =
       holds _ (and_i (good_report n A (report_columns (length A))) _ (rw columns_of_A (season-good columns n first e)) (rw columns_of_A (season-good columns m second g)))
 
   abbrev w₀ : ℕ
@@ -177,7 +177,7 @@ module _ (columns n m : ℕ) (first second : List ℕ) (e : (season columns n fi
   joining : Alike (join_reports_entry n (season columns n first).lent m (season columns m second).lent) (season columns (n + m) (first ++ second))
   joining =
       rw (season_is columns n first e, season_is columns m second g, join_is n A m B, entry_is 0 empty (n + m) (first ++ second))
-      (alike_of _ _ _ _ _ _ A empty _ _ (join-sizes ∙ sym run_sizes) (ap (λ (k : ℕ). leb k most_charts) (sym (zero-add (n + m)))) (join-good ∙ sym run_all_good) sums)
+      (alike_of _ _ _ _ _ _ A empty _ _ (join_sizes_lem ∙ sym run_sizes) (ap (λ (k : ℕ). leb k most_charts) (sym (zero-add (n + m)))) (join_good_lem ∙ sym run_all_good) sums)
 
 -- ---- a map's chart
 module _ (columns layers : ℕ) (ceiling : Float) (cuts : Cuts) (odds : List Float) where
@@ -197,10 +197,10 @@ module _ (columns layers : ℕ) (ceiling : Float) (cuts : Cuts) (odds : List Flo
 pub season_laws : SeasonLaws
 season_laws =
     record {
-      night-by-night = night-by-night;
+      night_by_night = night_by_night;
       beginning = beginning;
       joining = joining;
       nothing_added = nothing_added;
-      nothing-joined = nothing-joined;
+      nothing_joined = nothing_joined;
       charts_are_good = charts_are_good;
     }

@@ -20,11 +20,11 @@ use Rattle.theorems.specs.StationsLists.Words.{Call, outcome, left, Accepted, Ha
 use Rattle.theorems.specs.StationsLists.OneCall.{tried, Good, good_of, does}
 
 -- ---- two lists
-marks_joined : {A : Type 0} (marksOf : A → Answer (List Mark)) (bs cs : List A) → all_marks marksOf (bs ++ cs) ≡ all_marks marksOf bs ++ all_marks marksOf cs
-marks_joined marksOf [] cs = refl
-marks_joined marksOf (b ∷ bs) cs =
-    let xs = marks_given (marksOf b) in
-    ap (λ (ys : List Mark). xs ++ ys) (marks_joined marksOf bs cs) ∙ sym (append_assoc xs (all_marks marksOf bs) (all_marks marksOf cs))
+marks_joined : {A : Type 0} (marks_of : A → Answer (List Mark)) (bs cs : List A) → all_marks marks_of (bs ++ cs) ≡ all_marks marks_of bs ++ all_marks marks_of cs
+marks_joined marks_of [] cs = refl
+marks_joined marks_of (b ∷ bs) cs =
+    let xs = marks_given (marks_of b) in
+    ap (λ (ys : List Mark). xs ++ ys) (marks_joined marks_of bs cs) ∙ sym (append_assoc xs (all_marks marks_of bs) (all_marks marks_of cs))
 
 -- ---- what calls leave
 pub record Came (f : Format) (h : Head) (cs : List Call) (g : Grid) : Type 0 where

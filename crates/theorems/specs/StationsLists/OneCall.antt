@@ -23,7 +23,7 @@ use Rattle.beam.proofs.MarkLists.{marked_append}
 use Rattle.theorems.specs.PromiseThree.Beams.{marks_given, Taken, all_marks, given_a_count, grid_is}
 use Rattle.theorems.specs.FlatList.{flat_as_structs}
 use Rattle.theorems.specs.VerticalBeam.{general_beam}
-use Rattle.theorems.specs.VerticalBeam.Proof.{same-as-general}
+use Rattle.theorems.specs.VerticalBeam.Proof.{same_as_general}
 use Rattle.theorems.specs.StationsLists.Words.{Call, ray, flat-list, slice, file, upright, mark, counted, changed_one, outcome}
 use Rattle.theorems.specs.StationsLists.Words.{Handed, beam, by_hand, hand_marks, as_beams, beams_of_file, hands_over}
 
@@ -170,9 +170,9 @@ module _ (f : Format) (h : Head) (g : Grid) (n : ℕ) where
       go : (b : Bool) → in_profile h.extents v ≡ b → Shown (upright v)
       go true q =
           let t : T (in_profile h.extents v) = subst T (sym q) tt in
-          let r = ray-good (general_beam f h.extents v) (ap (λ (o : Outcome ℕ Grid). o.answer) (sym ((same-as-general f).outcome h v g t)) ∙ e) in
+          let r = ray-good (general_beam f h.extents v) (ap (λ (o : Outcome ℕ Grid). o.answer) (sym ((same_as_general f).outcome h v g t)) ∙ e) in
           (r.0, record { well_formed = t; taken = r.1.taken })
-      go false q = absurd (none_given (tried h g) _ (ap (λ (o : Outcome ℕ Grid). o.answer) (sym ((same-as-general f).outside h v g q)) ∙ e))
+      go false q = absurd (none_given (tried h g) _ (ap (λ (o : Outcome ℕ Grid). o.answer) (sym ((same_as_general f).outside h v g q)) ∙ e))
 
   mark_good : (occupied : Bool) (cell : List ℤ) → (changed_one (mark_entry f occupied h cell g)).answer ≡ given n → Shown (mark occupied cell)
   unfolding mark_entry
@@ -268,5 +268,5 @@ module _ (f : Format) (h : Head) (g : Grid) (p : tried h g ≡ none) where
       (file_does bytes s q (beams_taken f h.extents s.beams (subst (λ (a : Answer Sweep). Taken (hand_marks f h.extents) (as_beams (beams_of_file a))) q w.taken)))
   does (upright v) w =
       let b = general_beam f h.extents v in
-      subst (Does f h (beam b ∷ []) g) (sym ((same-as-general f).outcome h v g w.well_formed)) (ray_does b w.taken)
+      subst (Does f h (beam b ∷ []) g) (sym ((same_as_general f).outcome h v g w.well_formed)) (ray_does b w.taken)
   does (mark occupied cell) w = mark_does occupied cell w.taken

@@ -102,7 +102,7 @@ the_laptop =
         passes = refl;
         some-axis = lit≤ tt;
         cuts_are = refl;
-        held = record { occupied = refl; free = refl; ceiling = refl; above = tt; layer = refl; each-odds = zeros_fit 4 };
+        held = record { occupied = refl; free = refl; ceiling = refl; above = tt; layer = refl; each_odds = zeros_fit 4 };
         odds-within = refl;
         none_above_lem = refl;
       };

@@ -131,7 +131,7 @@ fresh_storable es m odds stamps some-axis cuts held e =
       passes = ap₂ (λ (i j : ℕ). head_refusal (uses_of_writing true) h i j) (length-replicate n zero_f ∙ sym (p.odds_count tt)) (length-replicate n 0 ∙ sym (p.stamps_count tt)) ∙ w;
       some-axis = some-axis;
       cuts_are = cuts;
-      held = record { occupied = held.occupied; free = held.free; ceiling = held.ceiling; above = held.above; layer = held.layer; each-odds = zeros_fit n };
+      held = record { occupied = held.occupied; free = held.free; ceiling = held.ceiling; above = held.above; layer = held.layer; each_odds = zeros_fit n };
       odds-within = zeros_within m b n;
       none_above_lem = zeros_none_above fresh_frame n;
     }

@@ -136,7 +136,7 @@ module _ (h : Head) (g : Grid) (s : Storable h g) where
           ceiling = s.held.ceiling;
           above = s.held.above;
           layer = s.held.layer;
-          each-odds = s.held.each-odds;
+          each_odds = s.held.each_odds;
         };
         odds-within = s.odds-within;
         none_above_lem = opened-none-above h.frame g.stamps s.none_above_lem;
@@ -163,7 +163,7 @@ module _ (h : Head) (g : Grid) (s : Storable h g) (cs : List Call) where
           ceiling = s.held.ceiling;
           above = s.held.above;
           layer = s.held.layer;
-          each-odds = calls_fit binary64 h cs g b s.held.ceiling s.held.each-odds;
+          each_odds = calls_fit binary64 h cs g b s.held.ceiling s.held.each_odds;
         };
         odds-within = calls-within binary64 h cs g b s.odds-within;
         none_above_lem = calls-none-above binary64 h cs g s.none_above_lem;

@@ -22,7 +22,7 @@ use Rattle.rules.specs.OneBeam.{mark_of, marks_along}
 use Rattle.rules.specs.VerticalBeam.{column_place, column_marks}
 use Rattle.laws.specs.LineSteps.{line_after, line_ended, goes_on, ends_here, one_more_cell, no_cells}
 use Rattle.vertical.proofs.InProfile.{on-grid}
-use Rattle.theorems.specs.VerticalBeam.Halves.{half, most_halves, half_value, no_halves, two_halves, add_halves, sub_halves, div-nothing, lt_halves}
+use Rattle.theorems.specs.VerticalBeam.Halves.{half, most_halves, half_value, no_halves, two_halves, add_halves, sub_halves, div_nothing, lt_halves}
 use Rattle.theorems.specs.VerticalBeam.Halves.{eq_halves, le_halves, mag_halves, finite_halves, centre-cell, whole_count}
 
 -- a cell's centre, in halves
@@ -41,10 +41,10 @@ column f x y z end i s n =
     record { axes = stays f x ∷ stays f y ∷ climbs f z end i s ∷ []; primary = 2; threshold = threshold_of f 3; remaining = suc n }
 
 -- ---- a step
-above-nothing : (f : Format) → le (threshold_of f 3) zero_f ≡ false
+above_nothing : (f : Format) → le (threshold_of f 3) zero_f ≡ false
 unfolding le lt eq threshold_of sub add neg sum div round number_f of_int
-above-nothing binary32 = refl
-above-nothing binary64 = refl
+above_nothing binary32 = refl
+above_nothing binary64 = refl
 
 no_error : (f : Format) → add f zero_f zero_f ≡ zero_f
 no_error f = ap₂ (add f) (sym (no_halves f)) (sym (no_halves f)) ∙ add_halves f 0 0 (omega arith) (omega arith) ∙ no_halves f
@@ -58,7 +58,7 @@ still f c =
     (no_error f)
     ∙ ap (λ (b : Bool). cond {A = Axis} b
     (record { current = add f (centre f c) (neg one_f); end = centre f c; increment = zero_f; step = neg one_f; error = sub f zero_f one_f }) (stays f c))
-    (above-nothing f)
+    (above_nothing f)
 
 one_up : (f : Format) (z : ℕ) → z ≤ most_extent → add f (centre f z) one_f ≡ centre f (suc z)
 one_up f z h =
@@ -152,7 +152,7 @@ module _ (f : Format) (x y z n : ℕ) (hx : x ≤ most_extent) (hy : y ≤ most_
       go zero h = refl
       go (suc k) h =
           ap (λ (b : Bool). cond b zero_f (div f zero_f (half f (2 * suc k)))) (ne_eqb (2 * suc k) 0 (λ e. omega arith))
-          ∙ div-nothing f (half f (2 * suc k)) (2 * suc k) (omega arith) (half_value f (2 * suc k) h)
+          ∙ div_nothing f (half f (2 * suc k)) (2 * suc k) (omega arith) (half_value f (2 * suc k) h)
 
   no_step : (c : ℕ) → c ≤ most_extent → step_to (centre f c) (centre f c) ≡ neg one_f
   unfolding step_to

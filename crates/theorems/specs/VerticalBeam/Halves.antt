@@ -101,11 +101,11 @@ divides (inf s) b B h = absurd h
 divides (fin s zero e) b B h = absurd (some_part 0 (up e) b (down e) B (down_pos e) h.1 refl)
 divides (fin s (suc m) e) b B h = zero-lt-suc m
 
-pub div-nothing : (f : Format) (y : Float) (b : ℕ) → 0 < b → HasValue y false b 2 → div f zero_f y ≡ zero_f
+pub div_nothing : (f : Format) (y : Float) (b : ℕ) → 0 < b → HasValue y false b 2 → div f zero_f y ≡ zero_f
 unfolding div
-div-nothing f nan b B h = absurd h
-div-nothing f (inf s) b B h = absurd h
-div-nothing f (fin s n g) b B h =
+div_nothing f nan b B h = absurd h
+div_nothing f (inf s) b B h = absurd h
+div_nothing f (fin s n g) b B h =
     ap₂ (λ (i j : Bool). cond i (cond (eqb 0 0) nan (inf (unlike false j))) (round f (unlike false j) (0 * 1 * down g) (n * up g * 1)))
     (ne_eqb n 0 (λ z. some_part n (up g) b (down g) B (down_pos g) h.1 z)) h.0
     ∙ round_same f false (0 * 1 * down g) (n * up g * 1) 0 2 (part n (up g) h.1) (zero-lt-suc 1) (omega arith)

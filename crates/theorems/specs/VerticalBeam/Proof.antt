@@ -27,25 +27,25 @@ use Rattle.theorems.specs.VerticalBeam.Clipping.{Rise, AllUpward, extents_of, or
 use Rattle.theorems.specs.VerticalBeam.Column.{column_cells, line-up, marks_up}
 
 -- ---- the coordinates, in halves
-centre-is : (f : Format) (n : ℕ) → n ≤ most_extent → cell_centre f n ≡ half f (2 * n + 1)
-centre-is f n h = ap₂ (add f) (number_halves f n) (sym (one-half f)) ∙ add_halves f (2 * n) 1 (omega arith) (omega arith)
+centre_is : (f : Format) (n : ℕ) → n ≤ most_extent → cell_centre f n ≡ half f (2 * n + 1)
+centre_is f n h = ap₂ (add f) (number_halves f n) (sym (one-half f)) ∙ add_halves f (2 * n) 1 (omega arith) (omega arith)
 
-abbrev upperHalves : ℕ → ℕ → ℕ
-upperHalves e t = cond (ltb t e) (2 * t + 1) (2 * e)
+abbrev upper_halves : ℕ → ℕ → ℕ
+upper_halves e t = cond (ltb t e) (2 * t + 1) (2 * e)
 
-upper_is : (f : Format) (e t : ℕ) → e ≤ most_extent → t ≤ e → upper_end f e t ≡ half f (upperHalves e t)
+upper_is : (f : Format) (e t : ℕ) → e ≤ most_extent → t ≤ e → upper_end f e t ≡ half f (upper_halves e t)
 upper_is f e t h g =
-    ap₂ (λ (x y : Float). cond (ltb t e) x y) (centre-is f t (omega arith)) (number_halves f e) ∙ inner (ltb t e)
+    ap₂ (λ (x y : Float). cond (ltb t e) x y) (centre_is f t (omega arith)) (number_halves f e) ∙ inner (ltb t e)
   where
     inner : (b : Bool) → cond b (half f (2 * t + 1)) (half f (2 * e)) ≡ half f (cond b (2 * t + 1) (2 * e))
     inner true = refl
     inner false = refl
 
 -- the upper end, on the map or on its face
-upper-cases : (e t : ℕ) → t ≤ e → ((t < e) × (upperHalves e t ≡ 2 * t + 1)) ⊎ ((t ≡ e) × (upperHalves e t ≡ 2 * e))
-upper-cases e t h = go (order t e)
+upper_cases : (e t : ℕ) → t ≤ e → ((t < e) × (upper_halves e t ≡ 2 * t + 1)) ⊎ ((t ≡ e) × (upper_halves e t ≡ 2 * e))
+upper_cases e t h = go (order t e)
   where
-    go : (t < e) ⊎ (e ≤ t) → ((t < e) × (upperHalves e t ≡ 2 * t + 1)) ⊎ ((t ≡ e) × (upperHalves e t ≡ 2 * e))
+    go : (t < e) ⊎ (e ≤ t) → ((t < e) × (upper_halves e t ≡ 2 * t + 1)) ⊎ ((t ≡ e) × (upper_halves e t ≡ 2 * e))
     go (inl g) = inl (g, ap (λ (b : Bool). cond b (2 * t + 1) (2 * e)) (lt-ltb t e g))
     go (inr g) = inr (omega arith, ap (λ (b : Bool). cond b (2 * t + 1) (2 * e)) (le-ltb t e g))
 
@@ -58,21 +58,21 @@ module _ (f : Format) (ex ey ez x y bottom top : ℕ) (hit : Bool) (hx : x < ex)
   abbrev axes : List Rise
   axes =
       record { extent = ex; from = 2 * x + 1; to = 2 * x + 1 } ∷ record { extent = ey; from = 2 * y + 1; to = 2 * y + 1 }
-      ∷ record { extent = ez; from = 2 * bottom + 1; to = upperHalves ez top } ∷ []
+      ∷ record { extent = ez; from = 2 * bottom + 1; to = upper_halves ez top } ∷ []
 
   record Upper : Type 0 where
-    from : 2 * bottom + 1 ≤ upperHalves ez top
-    most : upperHalves ez top ≤ 2 * ez
-    stop : min (upperHalves ez top) (2 * ez - 1) ≡ 2 * (bottom + up) + 1
-    inside : ltb (upperHalves ez top) (2 * ez) ≡ ltb top ez
+    from : 2 * bottom + 1 ≤ upper_halves ez top
+    most : upper_halves ez top ≤ 2 * ez
+    stop : min (upper_halves ez top) (2 * ez - 1) ≡ 2 * (bottom + up) + 1
+    inside : ltb (upper_halves ez top) (2 * ez) ≡ ltb top ez
 
   upper : Upper
-  upper = go (upper-cases ez top ends)
+  upper = go (upper_cases ez top ends)
     where
-      go : ((top < ez) × (upperHalves ez top ≡ 2 * top + 1)) ⊎ ((top ≡ ez) × (upperHalves ez top ≡ 2 * ez)) → Upper
+      go : ((top < ez) × (upper_halves ez top ≡ 2 * top + 1)) ⊎ ((top ≡ ez) × (upper_halves ez top ≡ 2 * ez)) → Upper
       go (inl c) =
           let h : top < ez = c.0 in
-          let e : upperHalves ez top ≡ 2 * top + 1 = c.1 in
+          let e : upper_halves ez top ≡ 2 * top + 1 = c.1 in
           record {
             from = omega arith;
             most = omega arith;
@@ -81,7 +81,7 @@ module _ (f : Format) (ex ey ez x y bottom top : ℕ) (hit : Bool) (hx : x < ex)
           }
       go (inr c) =
           let h : top ≡ ez = c.0 in
-          let e : upperHalves ez top ≡ 2 * ez = c.1 in
+          let e : upper_halves ez top ≡ 2 * ez = c.1 in
           record {
             from = omega arith;
             most = omega arith;
@@ -103,38 +103,38 @@ module _ (f : Format) (ex ey ez x y bottom top : ℕ) (hit : Bool) (hx : x < ex)
   abbrev es : List ℕ
   es = ex ∷ ey ∷ ez ∷ []
 
-  origins-are : cell_centre f x ∷ cell_centre f y ∷ cell_centre f bottom ∷ [] ≡ origins f axes
-  origins-are =
-      ap₂ (λ (a b : Float). a ∷ b ∷ cell_centre f bottom ∷ []) (centre-is f x (omega arith)) (centre-is f y (omega arith))
-      ∙ ap (λ (c : Float). half f (2 * x + 1) ∷ half f (2 * y + 1) ∷ c ∷ []) (centre-is f bottom (omega arith))
+  origins_are : cell_centre f x ∷ cell_centre f y ∷ cell_centre f bottom ∷ [] ≡ origins f axes
+  origins_are =
+      ap₂ (λ (a b : Float). a ∷ b ∷ cell_centre f bottom ∷ []) (centre_is f x (omega arith)) (centre_is f y (omega arith))
+      ∙ ap (λ (c : Float). half f (2 * x + 1) ∷ half f (2 * y + 1) ∷ c ∷ []) (centre_is f bottom (omega arith))
 
-  endpoints-are : cell_centre f x ∷ cell_centre f y ∷ upper_end f ez top ∷ [] ≡ endpoints f axes
-  endpoints-are =
-      ap₂ (λ (a b : Float). a ∷ b ∷ upper_end f ez top ∷ []) (centre-is f x (omega arith)) (centre-is f y (omega arith))
+  endpoints_are : cell_centre f x ∷ cell_centre f y ∷ upper_end f ez top ∷ [] ≡ endpoints f axes
+  endpoints_are =
+      ap₂ (λ (a b : Float). a ∷ b ∷ upper_end f ez top ∷ []) (centre_is f x (omega arith)) (centre_is f y (omega arith))
       ∙ ap (λ (c : Float). half f (2 * x + 1) ∷ half f (2 * y + 1) ∷ c ∷ []) (upper_is f ez top kz ends)
 
-  stops-are : stops f axes ≡ half f (2 * x + 1) ∷ half f (2 * y + 1) ∷ half f (2 * (bottom + up) + 1) ∷ []
-  stops-are =
-      ap₂ (λ (a b : ℕ). half f a ∷ half f b ∷ half f (min (upperHalves ez top) (2 * ez - 1)) ∷ []) (omega arith) (omega arith)
+  stops_are : stops f axes ≡ half f (2 * x + 1) ∷ half f (2 * y + 1) ∷ half f (2 * (bottom + up) + 1) ∷ []
+  stops_are =
+      ap₂ (λ (a b : ℕ). half f a ∷ half f b ∷ half f (min (upper_halves ez top) (2 * ez - 1)) ∷ []) (omega arith) (omega arith)
       ∙ ap (λ (c : ℕ). half f (2 * x + 1) ∷ half f (2 * y + 1) ∷ half f c ∷ []) upper.stop
 
   inside_is : ends_inside axes ≡ ltb top ez
   inside_is =
-      ap₂ (λ (a b : Bool). a && (b && (ltb (upperHalves ez top) (2 * ez) && true))) (lt-ltb (2 * x + 1) (2 * ex) (omega arith)) (lt-ltb (2 * y + 1) (2 * ey) (omega arith))
+      ap₂ (λ (a b : Bool). a && (b && (ltb (upper_halves ez top) (2 * ez) && true))) (lt-ltb (2 * x + 1) (2 * ex) (omega arith)) (lt-ltb (2 * y + 1) (2 * ey) (omega arith))
       ∙ ap (λ (c : Bool). c && true) upper.inside ∙ and-true (ltb top ez)
 
   abbrev beam : Vertical
   beam = record { x = x; y = y; bottom = bottom; top = top; hit = hit }
 
-  marks-are : beam_marks f es (general_beam f es beam)
+  marks_are : beam_marks f es (general_beam f es beam)
       ≡ given (column_marks es x y (hit && ltb top ez) bottom up)
   unfolding beam_marks marks_between
-  marks-are =
-      ap₂ (λ (os ts : List Float). cond (all_finite os && all_finite ts) (marks_between f es hit (clip f es os ts)) (refused ray)) origins-are endpoints-are
+  marks_are =
+      ap₂ (λ (os ts : List Float). cond (all_finite os && all_finite ts) (marks_between f es hit (clip f es os ts)) (refused ray)) origins_are endpoints_are
       ∙ ap₂ (λ (a b : Bool). cond (a && b) (marks_between f es hit (clip f es (origins f axes) (endpoints f axes))) (refused ray))
       (origins-finite f axes upward) (endpoints-finite f axes upward)
       ∙ ap (marks_between f es hit) (clipped f axes upward)
-      ∙ ap₂ (λ (ps : List Float) (i : Bool). and_then (plotter f (origins f axes) ps) (λ (l : Line). given (marks_along es (hit && i) (line_cells f l)))) stops-are inside_is
+      ∙ ap₂ (λ (ps : List Float) (i : Bool). and_then (plotter f (origins f axes) ps) (λ (l : Line). given (marks_along es (hit && i) (line_cells f l)))) stops_are inside_is
       ∙ line-up f x y bottom up (omega arith) (omega arith) (omega arith) es (hit && ltb top ez)
       ∙ ap given (marks_up ex ey ez (hit && ltb top ez) x y hx hy bottom up (omega arith))
 
@@ -145,7 +145,7 @@ same_marks f (e ∷ []) b h t = absurd (omega (arith, (inside_of (e ∷ []) b t)
 same_marks f (e ∷ d ∷ []) b h t = absurd (omega (arith, (inside_of (e ∷ d ∷ []) b t).axes))
 same_marks f (ex ∷ ey ∷ ez ∷ []) b h t =
     let i = inside_of (ex ∷ ey ∷ ez ∷ []) b t in
-    marks-are f ex ey ez b.x b.y b.bottom b.top b.hit i.x_on i.y_on i.bottom_on i.rises i.ends h.1 h.2.1 h.2.2.1
+    marks_are f ex ey ez b.x b.y b.bottom b.top b.hit i.x_on i.y_on i.bottom_on i.rises i.ends h.1 h.2.1 h.2.2.1
 same_marks f (e ∷ d ∷ c ∷ a ∷ es) b h t = absurd (omega (arith, (inside_of (e ∷ d ∷ c ∷ a ∷ es) b t).axes))
 
 -- ---- the entry
@@ -187,5 +187,5 @@ ran_out es b e =
     and-false true = refl
     and-false false = refl
 
-pub same-as-general : (f : Format) → SameAsGeneral f
-same-as-general f = record { marks = same_marks f; outcome = same_outcome f; outside = outside f; ran_out = ran_out }
+pub same_as_general : (f : Format) → SameAsGeneral f
+same_as_general f = record { marks = same_marks f; outcome = same_outcome f; outside = outside f; ran_out = ran_out }

@@ -80,6 +80,8 @@ weighed_is : (f : Format) (a : Bool) (w : Float) (ps : List Bool) (os : List Flo
     → Weight (a && agree ps bs) (weighed f w os bs)
 unfolding weighed
 weighed_is f a w [] [] bs none h = subst (λ (b : Bool). Weight b w) (sym (and_one a)) h
+weighed_is f a w [] (o ∷ os) bs x h = elim x [ ]
+weighed_is f a w (p ∷ ps) [] bs x h = elim x [ ]
 weighed_is f a w (p ∷ ps) (o ∷ os) [] (next q r) h = subst (λ (b : Bool). Weight b w) (sym (and_one a)) h
 weighed_is f a w (p ∷ ps) (o ∷ os) (b ∷ bs) (next q r) h =
     subst (λ (c : Bool). Weight c (weighed f (mul f w (side f o b)) os bs)) (and_assoc a (beq b p) (agree ps bs))

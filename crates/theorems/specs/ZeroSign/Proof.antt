@@ -20,8 +20,8 @@ use Rattle.theorems.specs.ZeroSign.Lines.{SamePoint, point-same, beyond_same, wi
 record SameSpan (s t : Span) : Type 0 where
   entry : SameNumber s.entry t.entry
   exit : SameNumber s.exit t.exit
-  entry-some : is_nan t.entry ≡ false
-  exit-some : is_nan t.exit ≡ false
+  entry_some : is_nan t.entry ≡ false
+  exit_some : is_nan t.exit ≡ false
 
 -- both miss, or both give a span
 abbrev Spans : Option Span → Option Span → Type 0
@@ -30,17 +30,17 @@ Spans none (some t) = ⊥
 Spans (some s) none = ⊥
 Spans (some s) (some t) = SameSpan s t
 
-spans-either : (b : Bool) (x y u v : Option Span) → Spans x u → Spans y v → Spans (cond b x y) (cond b u v)
-spans-either true x y u v p q = p
-spans-either false x y u v p q = q
+spans_either : (b : Bool) (x y u v : Option Span) → Spans x u → Spans y v → Spans (cond b x y) (cond b u v)
+spans_either true x y u v p q = p
+spans_either false x y u v p q = q
 
 larger-same : (a b u : Float) → SameNumber a u → SameNumber (larger_of a b) (larger_of u b)
 unfolding larger_of
 larger-same a b u p = rw (same-lt a b u b p (inl refl)) (same_cond (lt u b) b a b u (inl refl) p)
 
-smaller-same : (a b u : Float) → SameNumber a u → SameNumber (smaller_of a b) (smaller_of u b)
+smaller_same : (a b u : Float) → SameNumber a u → SameNumber (smaller_of a b) (smaller_of u b)
 unfolding smaller_of
-smaller-same a b u p = rw (same-lt b a b u (inl refl) p) (same_cond (lt b u) b a b u (inl refl) p)
+smaller_same a b u p = rw (same-lt b a b u (inl refl) p) (same_cond (lt b u) b a b u (inl refl) p)
 
 -- none of them is a NaN
 same_some : (x y : Float) → SameNumber x y → is_nan y ≡ false → is_nan x ≡ false
@@ -66,44 +66,44 @@ below-some nan a t = absurd t
 below-some (inf s) a t = refl
 below-some (fin s m e) a t = refl
 
-either-some : (c : Bool) (x y : Float) → (T c → is_nan x ≡ false) → is_nan y ≡ false → is_nan (cond c x y) ≡ false
-either-some true x y p q = p tt
-either-some false x y p q = q
+either_some : (c : Bool) (x y : Float) → (T c → is_nan x ≡ false) → is_nan y ≡ false → is_nan (cond c x y) ≡ false
+either_some true x y p q = p tt
+either_some false x y p q = q
 
 larger-some : (a b : Float) → is_nan a ≡ false → is_nan (larger_of a b) ≡ false
 unfolding larger_of
-larger-some a b h = either-some (lt a b) b a (above-some a b) h
+larger-some a b h = either_some (lt a b) b a (above-some a b) h
 
-smaller-some : (a b : Float) → is_nan a ≡ false → is_nan (smaller_of a b) ≡ false
+smaller_some : (a b : Float) → is_nan a ≡ false → is_nan (smaller_of a b) ≡ false
 unfolding smaller_of
-smaller-some a b h = either-some (lt b a) b a (below-some b a) h
+smaller_some a b h = either_some (lt b a) b a (below-some b a) h
 
-cut-same : (c : Choice) (near far : Float) (s t : Span) → SameSpan s t → Spans (cut_by c near far s) (cut_to near far t)
+cut_same : (c : Choice) (near far : Float) (s t : Span) → SameSpan s t → Spans (cut_by c near far s) (cut_to near far t)
 unfolding cut_to
-cut-same c near far s t p =
+cut_same c near far s t p =
     rw (same-lt (c.smaller s.exit far) (c.larger s.entry near) (smaller_of t.exit far) (larger_of t.entry near) exits entries)
-    (spans-either (lt (smaller_of t.exit far) (larger_of t.entry near)) none (some (record { entry = c.larger s.entry near; exit = c.smaller s.exit far }))
+    (spans_either (lt (smaller_of t.exit far) (larger_of t.entry near)) none (some (record { entry = c.larger s.entry near; exit = c.smaller s.exit far }))
     none (some (record { entry = larger_of t.entry near; exit = smaller_of t.exit far })) tt ends)
   where
     entries : SameNumber (c.larger s.entry near) (larger_of t.entry near)
     entries =
         same_trans (c.larger s.entry near) (larger_of s.entry near) (larger_of t.entry near)
-        (c.larger_is s.entry near (same_some s.entry t.entry p.entry p.entry-some))
+        (c.larger_is s.entry near (same_some s.entry t.entry p.entry p.entry_some))
         (larger-same s.entry near t.entry p.entry)
 
     exits : SameNumber (c.smaller s.exit far) (smaller_of t.exit far)
     exits =
         same_trans (c.smaller s.exit far) (smaller_of s.exit far) (smaller_of t.exit far)
-        (c.smaller_is s.exit far (same_some s.exit t.exit p.exit p.exit-some))
-        (smaller-same s.exit far t.exit p.exit)
+        (c.smaller_is s.exit far (same_some s.exit t.exit p.exit p.exit_some))
+        (smaller_same s.exit far t.exit p.exit)
 
     ends : SameSpan (record { entry = c.larger s.entry near; exit = c.smaller s.exit far }) (record { entry = larger_of t.entry near; exit = smaller_of t.exit far })
     ends =
         record {
           entry = entries;
           exit = exits;
-          entry-some = larger-some t.entry near p.entry-some;
-          exit-some = smaller-some t.exit far p.exit-some;
+          entry_some = larger-some t.entry near p.entry_some;
+          exit_some = smaller_some t.exit far p.exit_some;
         }
 
 slab-same : (c : Choice) (f : Format) (e : ℕ) (o d : Float) (s t : Span) → SameSpan s t → Spans (slab_by c f e o d s) (slab f e o d t)
@@ -111,10 +111,10 @@ unfolding slab
 slab-same c f e o d s t p =
     let near : Float = div f (sub f zero_f o) d in
     let far : Float = div f (sub f (number_f f e) o) d in
-    spans-either (eq d zero_f) (cond (lt o zero_f || le (number_f f e) o) none (some s)) (cond (lt far near) (cut_by c far near s) (cut_by c near far s))
+    spans_either (eq d zero_f) (cond (lt o zero_f || le (number_f f e) o) none (some s)) (cond (lt far near) (cut_by c far near s) (cut_by c near far s))
     (cond (lt o zero_f || le (number_f f e) o) none (some t)) (cond (lt far near) (cut_to far near t) (cut_to near far t))
-    (spans-either (lt o zero_f || le (number_f f e) o) none (some s) none (some t) tt p)
-    (spans-either (lt far near) (cut_by c far near s) (cut_by c near far s) (cut_to far near t) (cut_to near far t) (cut-same c far near s t p) (cut-same c near far s t p))
+    (spans_either (lt o zero_f || le (number_f f e) o) none (some s) none (some t) tt p)
+    (spans_either (lt far near) (cut_by c far near s) (cut_by c near far s) (cut_to far near t) (cut_to near far t) (cut_same c far near s t p) (cut_same c near far s t p))
 
 slabs-same : (c : ℕ → Choice) (k : ℕ) (f : Format) (es : List ℕ) (os ds : List Float) (s t : Span) → SameSpan s t → Spans (slabs_by c k f es os ds s) (slabs f es os ds t)
 unfolding slabs
@@ -132,10 +132,10 @@ slabs-same c k f (e ∷ es) (o ∷ os) (d ∷ ds) s t p =
     go (some u) (some v) q on = on u v q
 
 -- ---- marks
-plot-same : (f : Format) (es : List ℕ) (last : Bool) (xs ys us vs : List Float) → SamePoint xs us → SamePoint ys vs
+plot_same : (f : Format) (es : List ℕ) (last : Bool) (xs ys us vs : List Float) → SamePoint xs us → SamePoint ys vs
     → and_then (plotter f xs ys) (λ l. given (marks_along es last (line_cells f l))) ≡ and_then (plotter f us vs) (λ l. given (marks_along es last (line_cells f l)))
 unfolding plotter
-plot-same f es last xs ys us vs p q = rw (deltas-same f xs ys us vs p q) (go (all_finite (deltas f us vs)))
+plot_same f es last xs ys us vs p q = rw (deltas-same f xs ys us vs p q) (go (all_finite (deltas f us vs)))
   where
     go : (b : Bool)
         → and_then (cond b (given (line_between f (primary_of (deltas f us vs)) xs ys)) (refused ray)) (λ l. given (marks_along es last (line_cells f l)))
@@ -154,17 +154,17 @@ clipped-same f es hit s t xs ys us vs e p q =
         ≡ marks_between f es hit (cond b none (some (record { entry = clamp_point f es us; exit = clamp_point f es vs; inside = le one_f t && all_within f es vs })))
     go true = refl
     go false =
-        plot-same f es (hit && (le one_f t && all_within f es vs)) (clamp_point f es xs) (clamp_point f es ys) (clamp_point f es us) (clamp_point f es vs)
+        plot_same f es (hit && (le one_f t && all_within f es vs)) (clamp_point f es xs) (clamp_point f es ys) (clamp_point f es us) (clamp_point f es vs)
         (clamped-same f es xs us p) (clamped-same f es ys vs q)
 
-pub the-sign-of-a-zero-fraction-never-shows : NeverShows
+pub the_sign_of_a_zero_fraction_never_shows : NeverShows
 unfolding beam_marks clip is_nan
-the-sign-of-a-zero-fraction-never-shows c f es b =
+the_sign_of_a_zero_fraction_never_shows c f es b =
     ap (λ (m : Answer (List Mark)). cond (all_finite b.origin && all_finite b.endpoint) m (refused ray))
     (go (slabs_by c 0 f es xs ds whole_span) (slabs f es xs ds whole_span) (slabs-same c 0 f es xs ds whole_span whole_span whole))
   where
     whole : SameSpan whole_span whole_span
-    whole = record { entry = inl refl; exit = inl refl; entry-some = refl; exit-some = refl }
+    whole = record { entry = inl refl; exit = inl refl; entry_some = refl; exit_some = refl }
 
     xs : List Float
     xs = b.origin

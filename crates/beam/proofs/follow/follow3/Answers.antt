@@ -3,7 +3,7 @@ use mathlib.Core.Bool.{false}
 use mathlib.Core.Path.{refl, sym, ap, ◌∙◌}
 use native.Mathlib.Omega.{arith}
 use Rattle.rules.specs.TheLine.{Line, axes_after}
-use Rattle.laws.specs.Places.{place-lt}
+use Rattle.laws.specs.Places.{place_lt}
 use Rattle.laws.specs.Room.{room_most}
 use Rattle.bresenham.specs.Lines.{line3}
 use Rattle.beam.proofs.Following.{on_a_map, starts, follows}
@@ -43,7 +43,7 @@ pub place_within3-at-requires : goal.place_within3-at-requires
 place_within3-at-requires c = record { fact_1 = c.requires.fact_1.extents; fact_2 = c.if-x-extents.false; fact_3 = c.if-y-extents.false; fact_4 = c.if-z-extents.false }
 
 pub mark_counted3-count-requires : goal.mark_counted3-count-requires
-mark_counted3-count-requires c = let lt = place-lt _ _ _ refl c.place_within3-at.ensures in
+mark_counted3-count-requires c = let lt = place_lt _ _ _ refl c.place_within3-at.ensures in
     let p = (c.loop-remaining.invariant.begun.walked false).ready in
     record { fact_1 = p; fact_2 = rw p.odds_count lt }
 

@@ -1,6 +1,6 @@
 -- A cell off the grid has no mark; one on it has its place, below the number of cells.
 use mathlib.Core.Path.{refl, sym, ap, ◌∙◌}
-use Rattle.laws.specs.Places.{place-lt}
+use Rattle.laws.specs.Places.{place_lt}
 use Rattle.places.specs.Places.{place_of}
 use Rattle.beam.proofs.Applying.{none_applied}
 use Rattle.beam.proofs.marking.mark_cell3.Goals as goal
@@ -10,7 +10,7 @@ translate_to_index3-requires c = c.requires.extents
 
 pub mark_counted3-requires : goal.mark_counted3-requires
 mark_counted3-requires c = let found = sym c.translate_to_index3.ensures ∙ ap place_of c.in-At.is in
-    let lt = place-lt _ _ _ refl found in
+    let lt = place_lt _ _ _ refl found in
     record { fact_1 = c.requires; fact_2 = rw c.requires.odds_count lt }
 
 pub returns-in-Refused : goal.returns-in-Refused

@@ -23,7 +23,7 @@ use Rattle.record_reader.specs.Reading.{extents_here, stored_in}
 use Rattle.record_reader.proofs.Sound.{sound}
 use Rattle.record_reader.proofs.Taken.{head-fits}
 use Rattle.editions.specs.Moves.{cuts_fit, pairs_again}
-use Rattle.editions.proofs.Runs.{length_run, three-runs}
+use Rattle.editions.proofs.Runs.{length_run, three_runs}
 use Rattle.editions.proofs.Pieces.{edition, closed_mark, pair_of, frame_in, pair_is, moved_up, size3}
 use Rattle.editions.proofs.Moved.{length_up, up_no_room, up_done}
 use Rattle.editions.proofs.up.upgrade_cut3.Goals as goal
@@ -123,7 +123,7 @@ returns c = let a = c.args in
     let first = length-append edition (take (frame_in 3) b) in
     let some = length-take-le (frame_in 3) b (omega arith) in
     let many = length_middle b a.cuts (omega arith) in
-    let stores = three-runs start (middle b a.cuts) rest a.out.now _ _ _ 0 (field_size byte_length + frame_in 3) (field_size byte_length + frame_in 3 + 61)
+    let stores = three_runs start (middle b a.cuts) rest a.out.now _ _ _ 0 (field_size byte_length + frame_in 3) (field_size byte_length + frame_in 3 + 61)
     c.put_start.ensures c.put_pairs.ensures c.put_rest.ensures (omega arith) (omega arith) in
     up_done 3 (cuts_of a.cuts) b (stored_in 3 b) fits.is a.out.now c.requires.fact_2 (length b + 69) (omega arith) (omega arith) (start ++ middle b a.cuts ++ rest) _
     (moved_up 3 b (stored_in 3 b) fits.is held r.axes_are (with_cuts (cuts_of a.cuts) (stored_in 3 b).head) (middle b a.cuts) refl refl refl (three-pairs b a.cuts (pair_is 3 b (stored_in 3 b) fits.is held r.axes_are)))

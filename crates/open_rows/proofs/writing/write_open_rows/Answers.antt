@@ -11,7 +11,7 @@ use Rattle.rules.specs.EditionTwo.{stamps_tag, stamp_bytes, row_size, row_bytes,
 use Rattle.marks.specs.Marking.{grid_of}
 use Rattle.fields.proofs.Stores.{run_to, two_runs}
 use Rattle.fields.proofs.Floats.{one_of}
-use Rattle.rows.proofs.Written.{length-row}
+use Rattle.rows.proofs.Written.{length_row}
 use Rattle.open_rows.proofs.Rows.{from, length_open_row, bytes_left}
 use Rattle.open_rows.proofs.writing.write_open_rows.Goals as goal
 
@@ -73,7 +73,7 @@ loop-left-preserved c = let a = c.args in
     let marks = field stamps_tag (stamp_bytes (take a.width (drop l.place a.stamps.now))) in
     let first = c.write_row in
     let second = c.write_stamps in
-    let size = length-row a.width l.place a.odds.now (omega arith) in
+    let size = length_row a.width l.place a.odds.now (omega arith) in
     let both = two_runs row marks l.out _ _ l.here (field_size (row_length a.width)) size first.ensures second.ensures in
     let long = length_open_row a.width l.place a.odds.now a.stamps.now (omega arith) (omega arith) in (
       omega arith,

@@ -8,7 +8,7 @@ use Rattle.rules.specs.Fields.{field_size, rows_of}
 use Rattle.rules.specs.MapRecord.{row_length, rows_bytes}
 use Rattle.fields.proofs.Stores.{run_on}
 use Rattle.fields.proofs.Floats.{one_of}
-use Rattle.rows.proofs.Written.{row, length-row, rows_bytes_step}
+use Rattle.rows.proofs.Written.{row, length_row, rows_bytes_step}
 use Rattle.rows.proofs.writing.write_rows.Goals as goal
 
 pub loop-left-init : goal.loop-left-init
@@ -53,7 +53,7 @@ loop-left-preserved c = let a = c.args in
       c.write_row.auto.out ∙ l.invariant.2,
       l.invariant.3 ∙ ap (sets l.out l.here) (rows_bytes_step a.width l.left l.place a.odds.now more)
           ∙ run_on (row a.width (drop l.place a.odds.now)) (rows_bytes a.width (l.left - 1) (drop (l.place + a.width) a.odds.now)) l.out _ l.here (field_size (row_length a.width))
-          (length-row a.width l.place a.odds.now (omega arith)) c.write_row.ensures,
+          (length_row a.width l.place a.odds.now (omega arith)) c.write_row.ensures,
     )
 
 pub shape_of-out : goal.shape_of-out

@@ -4,7 +4,7 @@ use native.Mathlib.Nat.{mul-le-mul}
 use native.Mathlib.Omega.{arith}
 use mir.Facts.{Fits-le, Fits-lit}
 use Rattle.laws.specs.Room.{room_most}
-use Rattle.vertical.proofs.Climbing.{next_place, place-below, place_is, starts, goes_up, ends}
+use Rattle.vertical.proofs.Climbing.{next_place, place_below, place_is, starts, goes_up, ends}
 use Rattle.vertical.proofs.column.mark_column.Goals as goal
 
 pub overflow_mul-layer : goal.overflow_mul-layer
@@ -23,7 +23,7 @@ mark_counted3-count-requires c = let w = c.loop-left.invariant in
     let h = c.requires.fact_4 in
     let l = w.level in
     let t = c.loop-left-test.true in
-    let lt = place-below _ _ _ _ _ _ _ w.place c.requires.fact_2 c.requires.fact_3 (omega arith) in
+    let lt = place_below _ _ _ _ _ _ _ w.place c.requires.fact_2 c.requires.fact_3 (omega arith) in
     record { fact_1 = w.ready; fact_2 = rw w.ready.odds_count lt }
 
 pub overflow_add-count : goal.overflow_add-count
@@ -40,7 +40,7 @@ overflow_add-at c = let w = c.loop-left.invariant in
     let t = c.loop-left-test.true in
     let l = w.level in
     let h = c.requires.fact_4 in
-    let lt = place-below _ _ _ _ _ _ _ (next_place _ _ _ _ _ _ _ w.place) c.requires.fact_2 c.requires.fact_3 (omega arith) in
+    let lt = place_below _ _ _ _ _ _ _ (next_place _ _ _ _ _ _ _ w.place) c.requires.fact_2 c.requires.fact_3 (omega arith) in
     let few = c.requires.fact_1.extents.1 in
     omega arith
 
@@ -61,7 +61,7 @@ pub mark_counted3-requires : goal.mark_counted3-requires
 mark_counted3-requires c = let w = c.loop-left.invariant in
     let h = c.requires.fact_4 in
     let l = w.level in
-    let lt = place-below _ _ _ _ _ _ _ w.place c.requires.fact_2 c.requires.fact_3 (omega arith) in
+    let lt = place_below _ _ _ _ _ _ _ w.place c.requires.fact_2 c.requires.fact_3 (omega arith) in
     record { fact_1 = w.ready; fact_2 = rw w.ready.odds_count lt }
 
 pub overflow_add-result : goal.overflow_add-result

@@ -2,7 +2,7 @@
 use mathlib.Core.Path.{refl, sym, ap, ◌∙◌}
 use Rattle.rules.specs.RefusalNumbers.Entries.{set_log_odds_entry}
 use Rattle.laws.specs.Checks.{passed}
-use Rattle.laws.specs.Places.{place-lt}
+use Rattle.laws.specs.Places.{place_lt}
 use Rattle.types.specs.Models.{model_of}
 use Rattle.checks.specs.Checking.{check_of}
 use Rattle.places.specs.Places.{place_of}
@@ -12,7 +12,7 @@ pub translate_to_index2-requires : goal.translate_to_index2-requires
 translate_to_index2-requires c = (passed _ _ _ _ (sym c.check.ensures ∙ ap check_of c.in-Passed.is)).extents
 
 pub set_log_odds_at-requires : goal.set_log_odds_at-requires
-set_log_odds_at-requires c = rw ((passed _ _ _ _ (sym c.check.ensures ∙ ap check_of c.in-Passed.is)).odds_count tt) (place-lt _ _ _ refl (sym c.translate_to_index2.ensures ∙ ap place_of c.in-At.is))
+set_log_odds_at-requires c = rw ((passed _ _ _ _ (sym c.check.ensures ∙ ap check_of c.in-Passed.is)).odds_count tt) (place_lt _ _ _ refl (sym c.translate_to_index2.ensures ∙ ap place_of c.in-At.is))
 
 pub returns-in-Refused : goal.returns-in-Refused
 unfolding set_log_odds_entry

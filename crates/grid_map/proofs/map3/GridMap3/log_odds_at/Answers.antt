@@ -2,7 +2,7 @@
 use mathlib.Core.Path.{refl, sym, ap, ◌∙◌}
 use Rattle.rules.specs.RefusalNumbers.Entries.{log_odds_at_entry}
 use Rattle.laws.specs.Checks.{passed}
-use Rattle.laws.specs.Places.{place-lt}
+use Rattle.laws.specs.Places.{place_lt}
 use Rattle.checks.specs.Checking.{check_of}
 use Rattle.grid_map.proofs.map3.GridMap3.log_odds_at.Goals as goal
 
@@ -10,7 +10,7 @@ pub translate_to_index3-requires : goal.translate_to_index3-requires
 translate_to_index3-requires c = (passed _ _ _ _ (sym c.check.ensures ∙ ap check_of c.in-Passed.is)).extents
 
 pub read_at-requires : goal.read_at-requires
-read_at-requires c = λ i h. rw ((passed _ _ _ _ (sym c.check.ensures ∙ ap check_of c.in-Passed.is)).odds_count tt) (place-lt _ _ i refl (sym c.translate_to_index3.ensures ∙ h))
+read_at-requires c = λ i h. rw ((passed _ _ _ _ (sym c.check.ensures ∙ ap check_of c.in-Passed.is)).odds_count tt) (place_lt _ _ i refl (sym c.translate_to_index3.ensures ∙ h))
 
 pub returns-in-Refused : goal.returns-in-Refused
 unfolding log_odds_at_entry
