@@ -1,4 +1,4 @@
-//! Says where the two libraries are: in TEMBUZAR_LIB_DIR, else where `rt staticlib` writes them.
+//! Says where the two libraries are: in TEMBUZAR_LIB_DIR, else where `tools/archives` writes them.
 
 use std::path::PathBuf;
 
@@ -14,7 +14,7 @@ fn main() {
         let library = folder.join(format!("lib{name}.a"));
         println!("cargo:rerun-if-changed={}", library.display());
         if !library.exists() {
-            eprintln!("{} is not there: run `rt staticlib {name}` in the repository's root first", library.display());
+            eprintln!("{} is not there: run `tools/archives {name}` in the repository's root first", library.display());
             std::process::exit(1);
         }
         println!("cargo:rustc-link-lib=static={name}");

@@ -4,7 +4,7 @@
  *
  * Build and run, from the repository's root on x86-64 Linux:
  *
- *     rt staticlib tembuzar_charts
+ *     tools/archives tembuzar_charts
  *     cc -O2 -Iinclude examples/chart.c target/staticlib/libtembuzar_charts.a -o target/chart && target/chart
  */
 #include <math.h>

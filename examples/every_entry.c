@@ -5,7 +5,7 @@
  *
  * Build and run, from the repository's root on x86-64 Linux:
  *
- *     rt staticlib tembuzar && rt staticlib tembuzar_samples
+ *     tools/archives tembuzar && tools/archives tembuzar_samples
  *     cc -O2 -Iinclude examples/every_entry.c target/staticlib/libtembuzar.a target/staticlib/libtembuzar_samples.a \
  *         -o target/every_entry && target/every_entry
  */

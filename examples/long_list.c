@@ -7,7 +7,7 @@
  *
  * Build and run, from the repository's root on x86-64 Linux:
  *
- *     rt staticlib tembuzar
+ *     tools/archives tembuzar
  *     cc -O2 -pthread -Iinclude examples/long_list.c target/staticlib/libtembuzar.a -o target/long_list
  *     target/long_list
  */

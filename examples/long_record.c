@@ -8,7 +8,7 @@
  *
  * Build and run, from the repository's root on x86-64 Linux:
  *
- *     rt staticlib tembuzar
+ *     tools/archives tembuzar
  *     cc -O2 -pthread -Iinclude examples/long_record.c target/staticlib/libtembuzar.a -o target/long_record
  *     target/long_record
  */

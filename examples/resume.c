@@ -6,7 +6,7 @@
  *
  * Build and run, from the repository's root on x86-64 Linux:
  *
- *     rt staticlib tembuzar
+ *     tools/archives tembuzar
  *     cc -O2 -Iinclude examples/resume.c target/staticlib/libtembuzar.a -o target/resume && target/resume
  */
 #include <stdio.h>

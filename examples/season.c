@@ -3,7 +3,7 @@
  *
  * Build and run, from the repository's root on x86-64 Linux:
  *
- *     rt staticlib tembuzar_charts
+ *     tools/archives tembuzar_charts
  *     cc -O2 -Iinclude examples/season.c target/staticlib/libtembuzar_charts.a -o target/season && target/season
  */
 #include <stdio.h>

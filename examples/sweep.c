@@ -3,7 +3,7 @@
  *
  * Build and run, from the repository's root on x86-64 Linux (the first line proves the library and writes it):
  *
- *     rt staticlib tembuzar
+ *     tools/archives tembuzar
  *     cc -O2 -Iinclude examples/sweep.c target/staticlib/libtembuzar.a -o target/sweep && target/sweep
  */
 #include <math.h>

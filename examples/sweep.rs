@@ -2,7 +2,7 @@
 //
 // Build and run, from the repository's root on x86-64 Linux (the first line proves the library and writes it):
 //
-//     rt staticlib tembuzar
+//     tools/archives tembuzar
 //     rustc -O examples/sweep.rs -L target/staticlib -l static=tembuzar -o target/sweep_rs && target/sweep_rs
 //
 // The structs are those of include/tembuzar.h. A slice is handed over as its pointer and its length, so a safe function

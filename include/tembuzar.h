@@ -8,9 +8,9 @@
  *
  * The code behind each function is proved to answer by one rule, for every input that the rules below allow.
  * docs/ENTRIES.md names the rule of each.
- * Link with target/staticlib/libtembuzar.a, which `rt staticlib tembuzar` writes for x86-64 Linux. The two functions
+ * Link with target/staticlib/libtembuzar.a, which `tools/archives tembuzar` writes for x86-64 Linux. The two functions
  * that sample many points in one call are in a library of their own, target/staticlib/libtembuzar_samples.a, which
- * `rt staticlib tembuzar_samples` writes; it needs nothing of the other. So are those of charts and reports, in
+ * `tools/archives tembuzar_samples` writes; it needs nothing of the other. So are those of charts and reports, in
  * target/staticlib/libtembuzar_charts.a.
  *
  * A function's name ends in the number of the map's axes, 2 or 3. The four functions of season reports have none: a

@@ -107,26 +107,6 @@ module _ (axes : ℕ) (bytes : List ℕ) (s : Stored) (p : Parts axes bytes s) w
       let three = floats_in_length 3 b in
       record { occupied = at 0 (omega arith); free = at 1 (omega arith); ceiling = at 2 (omega arith); above = tt; layer = refl; each_odds = p.rows.held }
 
-  sound_of : 0 < axes → Sound axes bytes (record { head = head_in axes bytes; odds = p.odds })
-  sound_of some-axis =
-      let es = (head_in axes bytes).extents in
-      let a = extents_in_length axes (drop head_size bytes) in
-      record {
-        axes_are = a;
-        size_is = size_of;
-        passes = writing_passes (head_in axes bytes) (length p.odds) (record {
-          extents = p.extents_sound;
-          model = p.model_sound;
-          cuts = unfold cuts_in_bounds rising cuts_below in refl;
-          frame = p.frame_sound;
-          count = p.rows.odds-length ∙ sym (rows_are_cells es (omega arith));
-        });
-        written = λ room l. unfold writable pairs_checked equal_pairs room_for in
-            rw (p.rows.checked (rows_offset (length es)), le-leb (record_size es) room (omega (arith, size_of))) (ap given (sym size_of));
-        held = held_of;
-        numbers = p.rows.numbers;
-      }
-
 -- ---- writing it again gives the bytes
 front : (x d e f g h i : Bool) → x && d && e && f && g && h && i ≡ true → x ≡ true
 front true d e f g h i q = refl
@@ -182,7 +162,26 @@ read_again axes bytes s e b =
 
 pub read_sound : (axes : ℕ) (bytes : List ℕ) (s : Stored) → 0 < axes → record_of axes bytes ≡ given s → Sound axes bytes s
 read_sound axes bytes s some-axis e =
-    let p = parts axes bytes s e in subst (λ (x : Stored). Sound axes bytes x) p.end.is (sound_of axes bytes s p some-axis)
+    let p = parts axes bytes s e in
+    let sound : Sound axes bytes (record { head = head_in axes bytes; odds = p.odds }) =
+    let es = (head_in axes bytes).extents in
+    let a = extents_in_length axes (drop head_size bytes) in
+    record {
+      axes_are = a;
+      size_is = size_of axes bytes s p;
+      passes = writing_passes (head_in axes bytes) (length p.odds) (record {
+        extents = p.extents_sound;
+        model = p.model_sound;
+        cuts = unfold cuts_in_bounds rising cuts_below in refl;
+        frame = p.frame_sound;
+        count = p.rows.odds-length ∙ sym (rows_are_cells es (omega arith));
+      });
+      written = λ room l. unfold writable pairs_checked equal_pairs room_for in
+          rw (p.rows.checked (rows_offset (length es)), le-leb (record_size es) room (omega (arith, size_of axes bytes s p))) (ap given (sym (size_of axes bytes s p)));
+      held = held_of axes bytes s p;
+      numbers = p.rows.numbers;
+    } in
+    subst (λ (x : Stored). Sound axes bytes x) p.end.is sound
 
 -- a record holds one pair and no cuts
 pub read_plain : (axes : ℕ) (bytes : List ℕ) (s : Stored) → record_of axes bytes ≡ given s → plain_head s.head ≡ s.head
