@@ -5,6 +5,7 @@ use crate::page::{all_odds_are_nine, all_stamps_are_nine, number, text};
 use edition_reader::{read_edition2_record2, read_edition2_record3};
 use edition_writer::{write_edition2_record2, write_edition2_record3};
 use grid_map::{LoadAnswer2, LoadAnswer3};
+use std::io;
 use types::{CountAnswer, Refusal};
 
 const CLOSED: u64 = 0;
@@ -24,12 +25,10 @@ fn same_bytes(bytes: &[u8], out: &[u8]) -> bool {
     if bytes.len() > out.len() {
         return false;
     }
-    let mut i = 0;
-    while i < bytes.len() {
+    for i in 0..bytes.len() {
         if bytes[i] != out[i] {
             return false;
         }
-        i += 1;
     }
     true
 }
@@ -100,20 +99,21 @@ pub fn answer(axes: u64, bytes: &[u8]) -> u64 {
     answer2(bytes)
 }
 
-pub fn say(answer: u64) {
+pub fn say(rt: &impl Print, answer: u64) -> io::Result<()> {
     match answer {
-        CLOSED => text(b"closed"),
-        OPEN => text(b"open"),
-        OTHER_BYTES => text(b"OTHER BYTES"),
-        OTHER_REFUSAL => text(b"OTHER REFUSAL"),
-        LISTS_CHANGED => text(b"LISTS CHANGED"),
-        _ => broken(answer),
+        CLOSED => text(rt, "closed"),
+        OPEN => text(rt, "open"),
+        OTHER_BYTES => text(rt, "OTHER BYTES"),
+        OTHER_REFUSAL => text(rt, "OTHER REFUSAL"),
+        LISTS_CHANGED => text(rt, "LISTS CHANGED"),
+        _ => broken(rt, answer),
     }
 }
 
-fn broken(answer: u64) {
-    text(b"broken at ");
+fn broken(rt: &impl Print, answer: u64) -> io::Result<()> {
+    text(rt, "broken at ")?;
     if answer >= BROKEN {
-        number(answer - BROKEN);
+        number(rt, answer - BROKEN)?;
     }
+    Ok(())
 }

@@ -17,16 +17,10 @@ fn byte_at(bytes: &[u8], at: usize) -> u8 {
 
 // The bytes of a record from one place to another, put into the copy from a third on.
 fn place(bytes: &[u8], from: usize, to: usize, copy: &mut [u8; 296], at: usize) {
-    let mut i = 0;
-    while i < 296 {
-        if from <= 296 {
-            if from + i < to {
-                if at <= 296 {
-                    put(copy, at + i, byte_at(bytes, from + i));
-                }
-            }
+    for i in 0..296 {
+        if from <= 296 && from + i < to && at <= 296 {
+            put(copy, at + i, byte_at(bytes, from + i));
         }
-        i += 1;
     }
 }
 
@@ -74,10 +68,8 @@ pub fn with_fields_exchanged(
     let length = bytes.len();
     place(bytes, 0, length, &mut copy, 0);
     place(bytes, second, after, &mut copy, first);
-    if first <= second {
-        if second <= after {
-            place(bytes, first, second, &mut copy, after - (second - first));
-        }
+    if first <= second && second <= after {
+        place(bytes, first, second, &mut copy, after - (second - first));
     }
     cut_copy(&copy, axes, length)
 }

@@ -7,6 +7,7 @@ use crate::answers::say;
 use crate::copies::{cut, with_byte_changed, with_fields_exchanged};
 use crate::page::{number, text};
 use fields::u16_at;
+use std::io;
 
 // So many of the same answer, since a byte.
 #[derive(Clone, Copy)]
@@ -15,22 +16,23 @@ struct Run {
     answer: u64,
 }
 
-fn say_run(run: Run, to: usize) {
+fn say_run(rt: &impl Print, run: Run, to: usize) -> io::Result<()> {
     if run.since <= to {
-        text(b" ");
-        number((to - run.since) as u64);
-        text(b" ");
-        say(run.answer);
+        text(rt, " ")?;
+        number(rt, (to - run.since) as u64)?;
+        text(rt, " ")?;
+        say(rt, run.answer)?;
     }
+    Ok(())
 }
 
-fn next(run: Run, at: usize, answer: u64) -> Run {
+fn next(rt: &impl Print, run: Run, at: usize, answer: u64) -> io::Result<Run> {
     if answer == run.answer {
-        return run;
+        return Ok(run);
     }
-    say_run(run, at);
-    text(b",");
-    Run { since: at, answer }
+    say_run(rt, run, at)?;
+    text(rt, ",")?;
+    Ok(Run { since: at, answer })
 }
 
 // The record cut before this byte where the mask is 0, else with those bits of the byte exchanged.
@@ -41,21 +43,26 @@ fn damaged(bytes: &[u8], axes: u64, mask: u8, at: usize) -> u64 {
     with_byte_changed(bytes, axes, mask, at)
 }
 
-fn damaged_field(bytes: &[u8], axes: u64, mask: u8, from: usize, to: usize) {
-    text(b"  field at ");
-    number(from as u64);
-    text(b":");
+fn damaged_field(
+    rt: &impl Print,
+    bytes: &[u8],
+    axes: u64,
+    mask: u8,
+    from: usize,
+    to: usize,
+) -> io::Result<()> {
+    text(rt, "  field at ")?;
+    number(rt, from as u64)?;
+    text(rt, ":")?;
     let mut run = Run {
         since: from,
         answer: damaged(bytes, axes, mask, from),
     };
-    let mut at = from;
-    while at < to {
-        run = next(run, at, damaged(bytes, axes, mask, at));
-        at += 1;
+    for at in from..to {
+        run = next(rt, run, at, damaged(bytes, axes, mask, at))?;
     }
-    say_run(run, to);
-    text(b"\n");
+    say_run(rt, run, to)?;
+    text(rt, "\n")
 }
 
 // Where the field ends that begins here, as its length says; at most the record's end.
@@ -74,33 +81,42 @@ fn field_end(bytes: &[u8], at: usize) -> usize
     at + size
 }
 
-pub fn every_field_damaged(bytes: &[u8], axes: u64, mask: u8) {
+pub fn every_field_damaged(rt: &impl Print, bytes: &[u8], axes: u64, mask: u8) -> io::Result<()> {
     let mut at = 0;
     while at < bytes.len() {
         let end = field_end(bytes, at);
-        damaged_field(bytes, axes, mask, at, end);
+        damaged_field(rt, bytes, axes, mask, at, end)?;
         at = end;
     }
+    Ok(())
 }
 
-fn exchanged_with_next(bytes: &[u8], axes: u64, first: usize, second: usize) {
+fn exchanged_with_next(
+    rt: &impl Print,
+    bytes: &[u8],
+    axes: u64,
+    first: usize,
+    second: usize,
+) -> io::Result<()> {
     if second < bytes.len() {
         let end = field_end(bytes, second);
-        text(b"  fields at ");
-        number(first as u64);
-        text(b" and ");
-        number(second as u64);
-        text(b": ");
-        say(with_fields_exchanged(bytes, axes, first, second, end));
-        text(b"\n");
+        text(rt, "  fields at ")?;
+        number(rt, first as u64)?;
+        text(rt, " and ")?;
+        number(rt, second as u64)?;
+        text(rt, ": ")?;
+        say(rt, with_fields_exchanged(bytes, axes, first, second, end))?;
+        text(rt, "\n")?;
     }
+    Ok(())
 }
 
-pub fn every_field_exchanged(bytes: &[u8], axes: u64) {
+pub fn every_field_exchanged(rt: &impl Print, bytes: &[u8], axes: u64) -> io::Result<()> {
     let mut at = 0;
     while at < bytes.len() {
         let end = field_end(bytes, at);
-        exchanged_with_next(bytes, axes, at, end);
+        exchanged_with_next(rt, bytes, axes, at, end)?;
         at = end;
     }
+    Ok(())
 }

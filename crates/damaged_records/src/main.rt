@@ -15,82 +15,81 @@ use crate::page::{all_odds_are_nine, all_stamps_are_nine, number, text};
 use grid_map::{GridMap2, MapAnswer2};
 use record_reader::read_record2;
 use record_writer::write_record2;
+use std::io;
 use types::{CountAnswer, Extents2, Frame, Model, Refusal};
 
-fn lists(odds: &[f64], stamps: &[u32]) {
-    if all_odds_are_nine(odds) {
-        if all_stamps_are_nine(stamps) {
-            text(b", lists as they were\n");
-            return;
-        }
+fn lists(rt: &impl Print, odds: &[f64], stamps: &[u32]) -> io::Result<()> {
+    if all_odds_are_nine(odds) && all_stamps_are_nine(stamps) {
+        return text(rt, ", lists as they were\n");
     }
-    text(b", LISTS CHANGED\n");
+    text(rt, ", LISTS CHANGED\n")
 }
 
-fn refusal(r: Refusal) {
+fn refusal(rt: &impl Print, r: Refusal) -> io::Result<()> {
     match r {
         Refusal::Record { offset } => {
-            text(b"refused 10, offset ");
-            number(offset);
+            text(rt, "refused 10, offset ")?;
+            number(rt, offset)
         }
         Refusal::Room { needed } => {
-            text(b"refused 11, needs ");
-            number(needed);
+            text(rt, "refused 11, needs ")?;
+            number(rt, needed)
         }
-        _ => text(b"refused otherwise"),
+        _ => text(rt, "refused otherwise"),
     }
 }
 
 // What reading these bytes answers.
-fn reading(bytes: &[u8]) {
+fn reading(rt: &impl Print, bytes: &[u8]) -> io::Result<()> {
     let mut odds = [9.0f64; 4];
     let mut stamps = [9u32; 4];
     match read_record2(bytes, &mut odds, &mut stamps) {
-        MapAnswer2::Map(_) => text(b"read\n"),
+        MapAnswer2::Map(_) => text(rt, "read\n"),
         MapAnswer2::Refused(r) => {
-            refusal(r);
-            lists(&odds, &stamps);
+            refusal(rt, r)?;
+            lists(rt, &odds, &stamps)
         }
     }
 }
 
-fn cut_to(bytes: &[u8], length: usize) {
+fn cut_to(rt: &impl Print, bytes: &[u8], length: usize) -> io::Result<()> {
     if length <= bytes.len() {
-        text(b"  cut to ");
-        number(length as u64);
-        text(b": ");
+        text(rt, "  cut to ")?;
+        number(rt, length as u64)?;
+        text(rt, ": ")?;
         let part = &bytes[0..length];
-        reading(part);
+        reading(rt, part)?;
     }
+    Ok(())
 }
 
-fn cut_at_every_length(bytes: &[u8]) {
-    let mut length = 0;
-    while length < bytes.len() {
-        cut_to(bytes, length);
-        length += 1;
+fn cut_at_every_length(rt: &impl Print, bytes: &[u8]) -> io::Result<()> {
+    for length in 0..bytes.len() {
+        cut_to(rt, bytes, length)?;
     }
+    Ok(())
 }
 
 // One byte with all its bits exchanged; afterwards it is as it was.
-fn with_byte_changed(bytes: &mut [u8], at: usize) {
+fn with_byte_changed(rt: &impl Print, bytes: &mut [u8], at: usize) -> io::Result<()> {
     if at < bytes.len() {
+        text(rt, "  byte ")?;
+        number(rt, at as u64)?;
+        text(rt, ": ")?;
         let kept = bytes[at];
         bytes[at] = kept ^ 255;
-        text(b"  byte ");
-        number(at as u64);
-        text(b": ");
-        reading(bytes);
+        let said = reading(rt, bytes);
         bytes[at] = kept;
+        return said;
     }
+    Ok(())
 }
 
-fn every_byte_changed(bytes: &mut [u8]) {
-    let mut at = 0;
-    while at < 82 {
-        with_byte_changed(bytes, at);
-        at += 1;
+fn every_byte_changed(rt: &impl Print, bytes: &mut [u8]) -> io::Result<()> {
+    for at in 0..82 {
+        with_byte_changed(rt, bytes, at)?;
     }
+    Ok(())
 }
 
 fn put(bytes: &mut [u8], at: usize, value: u8) {
@@ -100,28 +99,29 @@ fn put(bytes: &mut [u8], at: usize, value: u8) {
 }
 
 // The first odds number, 0.0, made a NaN, as a damaged card may leave it; afterwards it is 0.0 again.
-fn with_a_nan(bytes: &mut [u8]) {
+fn with_a_nan(rt: &impl Print, bytes: &mut [u8]) -> io::Result<()> {
+    text(rt, "An odds number made NaN: ")?;
     put(bytes, 50, 248);
     put(bytes, 51, 127);
-    text(b"An odds number made NaN: ");
-    reading(bytes);
+    let said = reading(rt, bytes);
     put(bytes, 50, 0);
     put(bytes, 51, 0);
+    said
 }
 
-fn damaged(bytes: &mut [u8]) {
-    text(b"As written: ");
-    reading(bytes);
-    text(b"Cut at every length\n");
-    cut_at_every_length(bytes);
-    text(b"Every byte changed in turn\n");
-    every_byte_changed(bytes);
-    with_a_nan(bytes);
-    text(b"As written: ");
-    reading(bytes);
+fn damaged(rt: &impl Print, bytes: &mut [u8]) -> io::Result<()> {
+    text(rt, "As written: ")?;
+    reading(rt, bytes)?;
+    text(rt, "Cut at every length\n")?;
+    cut_at_every_length(rt, bytes)?;
+    text(rt, "Every byte changed in turn\n")?;
+    every_byte_changed(rt, bytes)?;
+    with_a_nan(rt, bytes)?;
+    text(rt, "As written: ")?;
+    reading(rt, bytes)
 }
 
-fn main() {
+fn main(rt: HostRuntime) -> io::Result<()> {
     let map = GridMap2 {
         extents: Extents2 { x: 2, y: 2 },
         model: Model {
@@ -135,12 +135,12 @@ fn main() {
     let mut bytes = [0u8; 82];
     match write_record2(map, &odds, &mut bytes) {
         CountAnswer::Count(n) => {
-            text(b"The record of a map of 2 by 2 has ");
-            number(n);
-            text(b" bytes.\n");
-            damaged(&mut bytes);
+            text(&rt, "The record of a map of 2 by 2 has ")?;
+            number(&rt, n)?;
+            text(&rt, " bytes.\n")?;
+            damaged(&rt, &mut bytes)?;
         }
-        CountAnswer::Refused(r) => refusal(r),
+        CountAnswer::Refused(r) => refusal(&rt, r)?,
     }
-    edition_two();
+    edition_two(&rt)
 }

@@ -5,7 +5,7 @@
 
 use floats::count_of;
 use grid_map::{GridMap2, MapAnswer2};
-use libc::STDOUT_FILENO;
+use std::io;
 use types::{Cell2, CountAnswer, Extents2, Model, Point2, Refusal};
 
 mod beams;
@@ -14,55 +14,53 @@ mod lines;
 mod record;
 mod sweep;
 
-fn text(bytes: &[u8]) {
-    io::write_all(STDOUT_FILENO, bytes);
+fn text(rt: &impl Print, words: &str) -> io::Result<()> {
+    rt.print(words)
 }
 
-fn number(n: u64) {
-    io::print_decimal(STDOUT_FILENO, n);
+fn number(rt: &impl Print, n: u64) -> io::Result<()> {
+    rt.print(n)
 }
 
 fn wide(x: u32) -> u64 {
-    x as u64
+    u64::from(x)
 }
 
 // A cell's index; those of the figures are not negative.
-fn index(i: i64) {
+fn index(rt: &impl Print, i: i64) -> io::Result<()> {
     if i < 0 {
-        text(b"negative");
-        return;
+        return text(rt, "negative");
     }
-    number(i as u64);
+    number(rt, i as u64)
 }
 
-fn cell(at: Cell2) {
-    text(b"(");
-    index(at.x);
-    text(b",");
-    index(at.y);
-    text(b")");
+fn cell(rt: &impl Print, at: Cell2) -> io::Result<()> {
+    text(rt, "(")?;
+    index(rt, at.x)?;
+    text(rt, ",")?;
+    index(rt, at.y)?;
+    text(rt, ")")
 }
 
-fn hundredths_of(n: u64) {
-    number(n / 100);
-    text(b".");
+fn hundredths_of(rt: &impl Print, n: u64) -> io::Result<()> {
+    number(rt, n / 100)?;
+    text(rt, ".")?;
     if n % 100 < 10 {
-        text(b"0");
+        text(rt, "0")?;
     }
-    number(n % 100);
+    number(rt, n % 100)
 }
 
 // Odds with two decimals; those of the figures have no more.
-fn odds_number(x: f64) {
+fn odds_number(rt: &impl Print, x: f64) -> io::Result<()> {
     if x < 0.0 {
-        text(b"-");
-        hundredths_of(count_of(-x * 100.0));
-        return;
+        text(rt, "-")?;
+        return hundredths_of(rt, count_of(-x * 100.0));
     }
-    hundredths_of(count_of(x * 100.0));
+    hundredths_of(rt, count_of(x * 100.0))
 }
 
-fn refusal(r: Refusal) {
+fn refusal(rt: &impl Print, r: Refusal) -> io::Result<()> {
     match r {
         Refusal::OutOfBounds {
             axis,
@@ -70,30 +68,30 @@ fn refusal(r: Refusal) {
             extent,
             axes,
         } => {
-            text(b"refused 5, axis ");
-            number(axis);
-            text(b", index ");
-            index(i);
-            text(b", extent ");
-            number(extent);
-            text(b", set ");
-            number(axes as u64);
+            text(rt, "refused 5, axis ")?;
+            number(rt, axis)?;
+            text(rt, ", index ")?;
+            index(rt, i)?;
+            text(rt, ", extent ")?;
+            number(rt, extent)?;
+            text(rt, ", set ")?;
+            number(rt, u64::from(axes))
         }
-        Refusal::Ray => text(b"refused 7"),
-        _ => text(b"refused otherwise"),
+        Refusal::Ray => text(rt, "refused 7"),
+        _ => text(rt, "refused otherwise"),
     }
 }
 
-fn count(answer: CountAnswer) {
+fn count(rt: &impl Print, answer: CountAnswer) -> io::Result<()> {
     match answer {
         CountAnswer::Count(n) => {
-            text(b" count ");
-            number(n);
-            text(b";");
+            text(rt, " count ")?;
+            number(rt, n)?;
+            text(rt, ";")
         }
         CountAnswer::Refused(r) => {
-            text(b" ");
-            refusal(r);
+            text(rt, " ")?;
+            refusal(rt, r)
         }
     }
 }
@@ -119,13 +117,13 @@ fn opened(odds: &mut [f64], stamps: &mut [u32]) -> MapAnswer2 {
     }
 }
 
-fn main() {
-    lines::lines();
-    beams::hits();
-    cells::votes_on_one_cell();
-    cells::samples();
-    cells::places();
-    cells::openings();
-    record::record();
-    sweep::sweep();
+fn main(rt: HostRuntime) -> io::Result<()> {
+    lines::lines(&rt)?;
+    beams::hits(&rt)?;
+    cells::votes_on_one_cell(&rt)?;
+    cells::samples(&rt)?;
+    cells::places(&rt)?;
+    cells::openings(&rt)?;
+    record::record(&rt)?;
+    sweep::sweep(&rt)
 }

@@ -2,26 +2,27 @@
 use crate::{model, number, refusal, text};
 use grid_map::GridMap2;
 use record_writer::write_record2;
+use std::io;
 use types::{CountAnswer, Extents2, Frame};
 
-fn digit(n: u8) {
+fn digit(rt: &impl Print, n: u8) -> io::Result<()> {
     match n {
-        0 => text(b"0"),
-        1 => text(b"1"),
-        2 => text(b"2"),
-        3 => text(b"3"),
-        4 => text(b"4"),
-        5 => text(b"5"),
-        6 => text(b"6"),
-        7 => text(b"7"),
-        8 => text(b"8"),
-        9 => text(b"9"),
-        10 => text(b"a"),
-        11 => text(b"b"),
-        12 => text(b"c"),
-        13 => text(b"d"),
-        14 => text(b"e"),
-        _ => text(b"f"),
+        0 => text(rt, "0"),
+        1 => text(rt, "1"),
+        2 => text(rt, "2"),
+        3 => text(rt, "3"),
+        4 => text(rt, "4"),
+        5 => text(rt, "5"),
+        6 => text(rt, "6"),
+        7 => text(rt, "7"),
+        8 => text(rt, "8"),
+        9 => text(rt, "9"),
+        10 => text(rt, "a"),
+        11 => text(rt, "b"),
+        12 => text(rt, "c"),
+        13 => text(rt, "d"),
+        14 => text(rt, "e"),
+        _ => text(rt, "f"),
     }
 }
 
@@ -38,27 +39,27 @@ fn field_begins(at: usize) -> bool {
     }
 }
 
-fn byte(bytes: &[u8], at: usize) {
+fn byte(rt: &impl Print, bytes: &[u8], at: usize) -> io::Result<()> {
     if at < bytes.len() {
         if field_begins(at) {
-            text(b"\n  ");
+            text(rt, "\n  ")?;
         } else {
-            text(b" ");
+            text(rt, " ")?;
         }
-        digit(bytes[at] / 16);
-        digit(bytes[at] % 16);
+        digit(rt, bytes[at] / 16)?;
+        digit(rt, bytes[at] % 16)?;
     }
+    Ok(())
 }
 
-fn all_bytes(bytes: &[u8]) {
-    let mut at = 0;
-    while at < bytes.len() {
-        byte(bytes, at);
-        at += 1;
+fn all_bytes(rt: &impl Print, bytes: &[u8]) -> io::Result<()> {
+    for at in 0..bytes.len() {
+        byte(rt, bytes, at)?;
     }
+    Ok(())
 }
 
-pub(crate) fn record() {
+pub(crate) fn record(rt: &impl Print) -> io::Result<()> {
     let map = GridMap2 {
         extents: Extents2 { x: 2, y: 2 },
         model: model(),
@@ -66,13 +67,16 @@ pub(crate) fn record() {
     };
     let odds = [0.0f64, 1.0, 2.0, 3.0];
     let mut bytes = [0u8; 82];
-    text(b"The record of 2 by 2, odds 0, 1, 2, 3, frame 1, a field to a line [82 bytes]: ");
+    text(
+        rt,
+        "The record of 2 by 2, odds 0, 1, 2, 3, frame 1, a field to a line [82 bytes]: ",
+    )?;
     match write_record2(map, &odds, &mut bytes) {
         CountAnswer::Count(n) => {
-            number(n);
-            all_bytes(&bytes);
-            text(b"\n");
+            number(rt, n)?;
+            all_bytes(rt, &bytes)?;
+            text(rt, "\n")
         }
-        CountAnswer::Refused(r) => refusal(r),
+        CountAnswer::Refused(r) => refusal(rt, r),
     }
 }
