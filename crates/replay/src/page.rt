@@ -4,15 +4,15 @@ use crate::kinds::{
     BEGIN, CELL, CLIP, COMMENT, FREE, KINDS, LINE, MAP, OCCUPIED, ODDS, OTHER, QUESTIONS, RAY,
     READ, RESET, SAMPLE, SCAN, SET, STAMPS, STENCIL, TRUNCATE,
 };
-use libc::STDOUT_FILENO;
+use std::io;
 use std::num::wrapping_add_u64;
 
-fn text(bytes: &[u8]) {
-    io::write_all(STDOUT_FILENO, bytes);
+fn text(out: &impl Print, bytes: &[u8]) -> io::Result<()> {
+    out.write_all(bytes)
 }
 
-fn number(n: u64) {
-    io::print_decimal(STDOUT_FILENO, n);
+fn number(out: &impl Print, n: u64) -> io::Result<()> {
+    out.print(n)
 }
 
 fn number_at(counts: &[u64], kind: usize) -> u64 {
@@ -22,13 +22,19 @@ fn number_at(counts: &[u64], kind: usize) -> u64 {
     0
 }
 
-fn row(name: &[u8], asked: &[u64], differing: &[u64], kind: usize) {
-    text(name);
-    text(b" ");
-    number(number_at(asked, kind));
-    text(b", differ ");
-    number(number_at(differing, kind));
-    text(b"\n");
+fn row(
+    out: &impl Print,
+    name: &[u8],
+    asked: &[u64],
+    differing: &[u64],
+    kind: usize,
+) -> io::Result<()> {
+    text(out, name)?;
+    text(out, b" ")?;
+    number(out, number_at(asked, kind))?;
+    text(out, b", differ ")?;
+    number(out, number_at(differing, kind))?;
+    text(out, b"\n")
 }
 
 // The sum of the first kinds' counts.
@@ -42,50 +48,61 @@ fn sum(counts: &[u64], kinds: usize) -> u64 {
     total
 }
 
-fn questions(asked: &[u64], differing: &[u64]) {
-    row(b"ray", asked, differing, RAY);
-    row(b"scan", asked, differing, SCAN);
-    row(b"free", asked, differing, FREE);
-    row(b"occupied", asked, differing, OCCUPIED);
-    row(b"set", asked, differing, SET);
-    row(b"begin", asked, differing, BEGIN);
-    row(b"reset", asked, differing, RESET);
-    row(b"read", asked, differing, READ);
-    row(b"cell", asked, differing, CELL);
-    row(b"stencil", asked, differing, STENCIL);
-    row(b"sample", asked, differing, SAMPLE);
-    row(b"clip", asked, differing, CLIP);
-    row(b"line", asked, differing, LINE);
-    row(b"truncate", asked, differing, TRUNCATE);
+fn questions(out: &impl Print, asked: &[u64], differing: &[u64]) -> io::Result<()> {
+    row(out, b"ray", asked, differing, RAY)?;
+    row(out, b"scan", asked, differing, SCAN)?;
+    row(out, b"free", asked, differing, FREE)?;
+    row(out, b"occupied", asked, differing, OCCUPIED)?;
+    row(out, b"set", asked, differing, SET)?;
+    row(out, b"begin", asked, differing, BEGIN)?;
+    row(out, b"reset", asked, differing, RESET)?;
+    row(out, b"read", asked, differing, READ)?;
+    row(out, b"cell", asked, differing, CELL)?;
+    row(out, b"stencil", asked, differing, STENCIL)?;
+    row(out, b"sample", asked, differing, SAMPLE)?;
+    row(out, b"clip", asked, differing, CLIP)?;
+    row(out, b"line", asked, differing, LINE)?;
+    row(out, b"truncate", asked, differing, TRUNCATE)
 }
 
-fn other_lines(asked: &[u64], differing: &[u64]) {
-    row(b"map", asked, differing, MAP);
-    row(b"odds", asked, differing, ODDS);
-    row(b"stamps", asked, differing, STAMPS);
-    row(b"comment", asked, differing, COMMENT);
-    row(b"malformed", asked, differing, OTHER);
+fn other_lines(out: &impl Print, asked: &[u64], differing: &[u64]) -> io::Result<()> {
+    row(out, b"map", asked, differing, MAP)?;
+    row(out, b"odds", asked, differing, ODDS)?;
+    row(out, b"stamps", asked, differing, STAMPS)?;
+    row(out, b"comment", asked, differing, COMMENT)?;
+    row(out, b"malformed", asked, differing, OTHER)
 }
 
-fn first_line(first: u64) {
-    text(b"First line that differs: ");
+fn first_line(out: &impl Print, first: u64) -> io::Result<()> {
+    text(out, b"First line that differs: ")?;
     if first == 0 {
-        text(b"none");
+        text(out, b"none")?;
     } else {
-        number(first);
+        number(out, first)?;
     }
-    text(b"\n");
+    text(out, b"\n")
 }
 
-pub(crate) fn page(asked: &[u64], differing: &[u64], first: u64) {
-    text(b"The original's answers, replayed: how many of each kind, and how many differ\n");
-    questions(asked, differing);
-    text(b"Lines that ask nothing, and how many of them could not be read\n");
-    other_lines(asked, differing);
-    first_line(first);
-    text(b"Total: ");
-    number(sum(asked, QUESTIONS));
-    text(b" questions, ");
-    number(sum(differing, KINDS));
-    text(b" differ\n");
+pub(crate) fn page(
+    out: &impl Print,
+    asked: &[u64],
+    differing: &[u64],
+    first: u64,
+) -> io::Result<()> {
+    text(
+        out,
+        b"The original's answers, replayed: how many of each kind, and how many differ\n",
+    )?;
+    questions(out, asked, differing)?;
+    text(
+        out,
+        b"Lines that ask nothing, and how many of them could not be read\n",
+    )?;
+    other_lines(out, asked, differing)?;
+    first_line(out, first)?;
+    text(out, b"Total: ")?;
+    number(out, sum(asked, QUESTIONS))?;
+    text(out, b" questions, ")?;
+    number(out, sum(differing, KINDS))?;
+    text(out, b" differ\n")
 }

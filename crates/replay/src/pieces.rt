@@ -1,13 +1,21 @@
 // The list, read from the standard input piece by piece and replayed line by line. What is left of a piece after its
 // last whole line is moved to the front of the room for pieces, and the next piece is read behind it.
 ghost use Rattle.std.specs.Prelude.{◌<◌, ◌≤◌, length};
+ghost use Rattle.std.specs.Io.{ReadsAtMost};
 
 use crate::dispatch::{State, replayed};
 use crate::kinds::{OTHER, kind_of};
 use crate::maps::{MOST, Map};
 use crate::reading::find;
-use libc::STDIN_FILENO;
+use std::io;
+use std::io::Read;
 use std::num::{wrapping_add_u64, wrapping_add_usize};
+
+// How many bytes of the list there is room for at a time.
+const ROOM: usize = 65536;
+
+// The most pieces that are read.
+const PIECES: u64 = 1000;
 
 // How far the replay has come: the map, how many lines there were, the first of them that differs (0 for none), where
 // in the room the next line starts, and whether the list has ended.
@@ -144,34 +152,50 @@ fn moved(room: &mut [u8], from: usize, to: usize) -> usize {
     i
 }
 
-// Reads behind the first bytes of the room; answers how many it has then.
-fn filled(room: &mut [u8], left: usize) -> usize {
-    if left > room.len() {
-        return left;
+// Reads until the buffer is full or the input ends; answers how many bytes were read.
+fn read_full(input: &mut impl Read, buffer: &mut [u8]) -> io::Result<usize>
+    ensures { ReadsAtMost result buffer.new }
+{
+    let mut done = 0;
+    while done < buffer.len() {
+        let n = input.read(&mut buffer[done..])?;
+        if n == 0 {
+            break;
+        }
+        done += n;
     }
-    let n = io::read_full(STDIN_FILENO, &mut room[left..]);
-    wrapping_add_usize(left, n)
+    Ok(done)
+}
+
+// Reads behind the first bytes of the room; answers how many it has then.
+fn filled(input: &mut impl Read, room: &mut [u8], left: usize) -> io::Result<usize> {
+    if left > room.len() {
+        return Ok(left);
+    }
+    let n = read_full(input, &mut room[left..])?;
+    Ok(wrapping_add_usize(left, n))
 }
 
 // One piece, behind what was left of the one before. The list ends where nothing is read.
 fn piece(
+    input: &mut impl Read,
     room: &mut [u8],
     p: Progress,
     asked: &mut [u64],
     differing: &mut [u64],
     odds: &mut [f64],
     stamps: &mut [u32],
-) -> Progress {
+) -> io::Result<Progress> {
     let left = p.at;
-    let end = filled(room, left);
+    let end = filled(input, room, left)?;
     if end <= left {
-        return placed(p, left, true);
+        return Ok(placed(p, left, true));
     }
     if end > room.len() {
-        return placed(p, left, true);
+        return Ok(placed(p, left, true));
     }
     let after = lines_done(&room[..end], p, asked, differing, odds, stamps);
-    placed(after, moved(room, after.at, end), false)
+    Ok(placed(after, moved(room, after.at, end), false))
 }
 
 // A line that the list breaks off in, or that the room does not hold, is malformed.
@@ -188,8 +212,13 @@ fn broken_off(p: Progress, asked: &mut [u64], differing: &mut [u64]) -> u64 {
 
 // The whole list, at most a thousand pieces of it: what was asked and what differs is counted by kind. Answers the
 // number of the first line that differs, or 0.
-pub(crate) fn replay(asked: &mut [u64], differing: &mut [u64]) -> u64 {
-    let mut room = io::large_buffer();
+pub(crate) fn replay(
+    rt: &(impl Input + AllocGlobal),
+    asked: &mut [u64],
+    differing: &mut [u64],
+) -> io::Result<u64> {
+    let mut input = rt.reader();
+    let mut room = vec![in rt.alloc(); 0u8; ROOM]?;
     let mut odds = [0.0f64; MOST];
     let mut stamps = [0u32; MOST];
     let mut p = Progress {
@@ -203,13 +232,19 @@ pub(crate) fn replay(asked: &mut [u64], differing: &mut [u64]) -> u64 {
         at: 0,
         ended: false,
     };
-    let mut pieces: u64 = 1000;
-    while pieces > 0 {
-        p = piece(&mut room, p, asked, differing, &mut odds, &mut stamps);
+    for _ in 0..PIECES {
+        p = piece(
+            &mut input,
+            &mut room,
+            p,
+            asked,
+            differing,
+            &mut odds,
+            &mut stamps,
+        )?;
         if p.ended {
-            return broken_off(p, asked, differing);
+            return Ok(broken_off(p, asked, differing));
         }
-        pieces -= 1;
     }
-    broken_off(p, asked, differing)
+    Ok(broken_off(p, asked, differing))
 }
