@@ -27,7 +27,7 @@ use Rattle.theorems.specs.StationsLists.Words.{Call, Handed, hand_marks, handed,
 use Rattle.theorems.specs.StationsLists.ChartWords.{LoneVotes, NoThicker}
 use Rattle.theorems.specs.StationsLists.OneCall.{not_refused, neither}
 use Rattle.theorems.specs.StationsLists.Calls.{came}
-use Rattle.theorems.specs.StationsLists.Proof.{ends, costs}
+use Rattle.theorems.proofs.StationsLists.Proof.{ends, costs}
 
 -- ---- how a cell was met
 pub data Met (f : Format) (es : List ℕ) (bs : List Handed) (i : ℕ) : Type 0 where

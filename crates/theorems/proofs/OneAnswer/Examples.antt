@@ -7,7 +7,7 @@ use Rattle.rules.specs.Floats.{zero_f, one_f}
 use Rattle.types.specs.declared.answers.CountAnswer.{CountAnswer}
 use Rattle.types.specs.declared.answers.CountAnswer.TheVariants as Count
 use Rattle.beam.specs.Applying.{count_outcome}
-use Rattle.theorems.specs.OneAnswer.{count_outcome-one}
+use Rattle.theorems.proofs.OneAnswer.{count_outcome-one}
 use Rattle.theorems.specs.OneAnswer.Law.{OneAnswer}
 
 abbrev odds : List Float

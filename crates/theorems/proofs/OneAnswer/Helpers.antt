@@ -40,8 +40,8 @@ use Rattle.types.proofs.InjectiveAnswers.{count_answer_injective, set_answer_inj
 use Rattle.types.proofs.InjectiveAnswers.{cell_read_injective, sample_read2_injective, sample_read3_injective}
 use Rattle.bresenham.proofs.Injective.{axis_injective, primary_injective, line2_injective, line3_injective}
 use Rattle.sample.proofs.StencilLaws.{on_axis_injective, stencilled2_injective, stencilled3_injective}
-use Rattle.theorems.specs.OneAnswer.Under.{check_of_injective, place_of_injective, passage_of_injective, steps_of_injective, clip2_injective, clip3_injective, tried2_injective, tried3_injective}
-use Rattle.theorems.specs.OneAnswer.Grids.{grid}
+use Rattle.theorems.proofs.OneAnswer.Under.{check_of_injective, place_of_injective, passage_of_injective, steps_of_injective, clip2_injective, clip3_injective, tried2_injective, tried3_injective}
+use Rattle.theorems.proofs.OneAnswer.Grids.{grid}
 
 -- ---- a value of the code that stands for one of the rules: `point2 r ≡ v`
 pub point2-one : Fixed point2
