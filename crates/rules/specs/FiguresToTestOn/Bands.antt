@@ -1,7 +1,8 @@
 -- Change request 6 by example: three bands, their cuts, and what edition 1 of the map record makes of them. One table,
 -- proved of the definitions by computation.
-use Rattle.std.specs.Prelude.{ℕ, Bool, true, false, List, [], ◌∷◌, ◌++◌, ◌≡◌, refl, pos, replicate, Float}
-use Rattle.std.specs.Float.{nan, binary64}
+use Rattle.std.specs.Prelude.{ℕ, Bool, true, false, List, [], ◌∷◌, ◌++◌, ◌≡◌, refl, pos, negsuc, replicate, Float}
+use Rattle.std.proofs.Common.{◌∙◌}
+use Rattle.std.specs.Float.{nan, fin, binary64}
 use Rattle.rules.specs.RefusalNumbers.{given, refused, bad_model, bad_cuts, bad_buffer, broken_record, no_room}
 use Rattle.rules.specs.RefusalNumbers.Entries.{Outcome, new_entry, mark_entry, read_record_entry, write_record_entry}
 use Rattle.rules.specs.Floats.{zero_f, one_f}
@@ -88,9 +89,10 @@ pub record BandAnswers : Type 0 where
 pub band_answers : BandAnswers
 unfolding opened
 band_answers =
+    let quarter : marking false 1 ≡ leaves 7 8 (fin true 1 (negsuc 1)) 4 = refl in
     record {
       lowest_height = refl;
-      at_the_first_cut = refl;
+      at_the_first_cut = quarter ∙ refl;
       below_the_second_cut = refl;
       at_the_second_cut = refl;
       good-cuts = refl;
