@@ -1,5 +1,5 @@
 // The lent forms over a map of two axes, from C: a slice of beams, and a head lent by reference. Each is `lent`'s entry
-// with its answer converted; both take a reference to structs, so their proofs are by hand.
+// with its answer converted.
 ghost use Rattle.std.specs.Float.{binary64};
 ghost use Rattle.rules.specs.RefusalNumbers.Entries.{begin_scan_entry, update_beams_entry};
 ghost use Rattle.marks.specs.Marking.{grid_of};
