@@ -7,17 +7,15 @@ use native.Mathlib.Omega.{arith}
 use mathlib.Core.Bool.{false}
 use lib.Ieee.{Float, Format}
 use lib.IntN.{pos}
-use lib.ListN.{length}
 use Rattle.rules.specs.TheGridAndItsBounds.{Head, most_extent}
 use Rattle.rules.specs.Coordinates.{flat_index}
 use Rattle.rules.specs.RefusalNumbers.{given}
 use Rattle.rules.specs.TheLine.{Line, axes_after}
-use Rattle.laws.specs.Checks.{Ready}
-use Rattle.laws.specs.Following.{Drawn, AllFollowed, AllSmall, followed_cells}
+use Rattle.laws.specs.Following.{AllFollowed, AllSmall, followed_cells}
 use Rattle.laws.specs.LineSteps.{line_after}
 use Rattle.beam.specs.Applying.{Applied, one}
 use Rattle.beam.specs.Walking.{Begun}
-use Rattle.beam.proofs.Walking.{not_started, goes_free}
+use Rattle.beam.proofs.Walking.{goes_free}
 
 pub record Along (f : Format) (h : Head) (line : Line) (odds₀ : List Float) (stamps₀ : List ℕ) (cells : List ℕ) (rest : Line) (odds : List Float) (stamps : List ℕ) (count remaining : ℕ)
     : Type 0 where
@@ -29,10 +27,6 @@ pub on_a_map : (n extent : ℕ) → n < extent → extent ≤ most_extent → n 
 on_a_map n extent h g = omega arith
 
 module _ (f : Format) (h : Head) (line : Line) (odds₀ : List Float) (stamps₀ : List ℕ) where
-  pub starts : (cells : List ℕ) → Ready h (length odds₀) (length stamps₀) → Drawn line → AllFollowed f cells line.axes
-      → Along f h line odds₀ stamps₀ cells line odds₀ stamps₀ 0 line.remaining
-  starts cells r d on = record { begun = record { drawn = d; walked = λ last. not_started f h last line odds₀ stamps₀ r }; left = refl; followed = on }
-
   module _ (cells : List ℕ) (rest : Line) (odds : List Float) (stamps : List ℕ) (count remaining : ℕ)
       (a : Along f h line odds₀ stamps₀ cells rest odds stamps count remaining) where
     pub follows : (cells' : List ℕ) (after : Line) (at n : ℕ) (odds' : List Float) (stamps' : List ℕ) → 1 < remaining → AllSmall cells

@@ -1,10 +1,11 @@
 -- A walk along a line: what holds between its steps, over lines of any number of axes, in every format. Whatever the
 -- rest of the line does to the lists as they stand, the whole line does to the lists as they were. Assumes nothing.
-use Prim.Native.Nat.{ℕ, ◌+◌, ◌-◌, ◌<◌}
+use Prim.Native.Nat.{ℕ, ◌+◌, ◌-◌, ◌<◌, ◌≤◌}
+use Rattle.std.proofs.Common.{Fits, w64}
 use mathlib.Core.Bool.{Bool, false, cond}
 use mathlib.Core.List.{List, []}
 use mathlib.Core.Path.{◌≡◌, refl, sym, ap, ◌∙◌}
-use native.Mathlib.Nat.{zero-add, add_assoc, add-zero}
+use native.Mathlib.Nat.{add_assoc, add-zero}
 use native.Mathlib.Omega.{arith}
 use lib.Dec.{eqb}
 use lib.Ieee.{Float, Format}
@@ -20,11 +21,21 @@ use Rattle.rules.specs.OneBeam.{mark_of, marks_along}
 use Rattle.laws.specs.Checks.{Ready}
 use Rattle.laws.specs.Following.{drawn_after}
 use Rattle.laws.specs.LineSteps.{line_after, line_ended, goes_on, ends_here, marks_step, done, no_cells}
+use Rattle.laws.specs.Room.{room, room_most}
 use Rattle.beam.proofs.MarkLists.{marked-odds, marked-stamps}
 use Rattle.marks.specs.Marking.{grid_of}
 use Rattle.beam.specs.Applying.{Applied, one}
 use Rattle.beam.specs.Walking.{Walked, Begun}
 use Rattle.beam.proofs.Applying.{none_applied, both_applied}
+
+-- no more marks change a cell than the stamps have room for, so their count fits
+pub still_counts : (h : Head) (odds : ℕ) (stamps₀ stamps stamps' : List ℕ) (count n : ℕ) → Ready h odds (length stamps₀) → count + room h.frame stamps ≤ room h.frame stamps₀
+    → n + room h.frame stamps' ≤ room h.frame stamps → Fits w64 (count + n)
+still_counts h odds stamps₀ stamps stamps' count n r before step =
+    let most = room_most h.frame stamps₀ in
+    let counted = r.stamps_count in
+    let few = r.extents.1 in
+    omega arith
 
 -- the head still fits the lists after marks
 pub still_ready : (f : Format) (h : Head) (xs : List Mark) (odds odds' : List Float) (stamps stamps' : List ℕ) (n : ℕ) → Ready h (length odds) (length stamps)
@@ -39,9 +50,6 @@ still_ready f h xs odds odds' stamps stamps' n r a =
     }
 
 module _ (f : Format) (h : Head) (last : Bool) (line : Line) (odds₀ : List Float) (stamps₀ : List ℕ) where
-  pub not_started : Ready h (length odds₀) (length stamps₀) → Walked f h last line odds₀ stamps₀ line odds₀ stamps₀ 0 line.remaining
-  not_started r = record { left = refl; ready = r; used = omega arith; whole = λ n o s a. rw zero-add a }
-
   module _ (rest : Line) (odds : List Float) (stamps : List ℕ) (count remaining : ℕ) (w : Walked f h last line odds₀ stamps₀ rest odds stamps count remaining) where
     pub one_step : (after : Line) (c : List ℤ) (occupied : Bool) (n : ℕ) (odds' : List Float) (stamps' : List ℕ) → step_of f rest ≡ yields c after
         → occupied ≡ cond (eqb after.remaining 0) last false

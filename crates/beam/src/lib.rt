@@ -3,9 +3,11 @@
 #![tactic(auto)]
 
 mod beam;
+mod beams;
 mod follow;
 mod marking;
 mod walk;
 
-pub use beam::{integrate2, integrate3};
-pub use marking::{mark_counted3, mark_place, mark_place3};
+pub use beam::integrate;
+pub use beams::Beams;
+pub use marking::{mark_counted, mark_on, mark_place};

@@ -1,25 +1,22 @@
 -- Axes, lines, steps and the plotter's answers: each map to the rules has a way back. Assumes nothing.
 use Prim.Native.Nat.{ℕ}
-use mathlib.Core.Path.{◌≡◌, refl, ap}
+use mathlib.Core.List.{List}
+use mathlib.Core.Path.{refl}
+use Rattle.std.specs.Prelude.{Some, None}
+use Rattle.std.proofs.Common.{ap₂}
+use lib.IntN.{ℤ}
 use lib.ListN.{get_or}
 use lib.Ieee.{nan}
 use Rattle.rules.specs.TheLine as TheLine
-use Rattle.types.proofs.Injective.{Injective, of_back, cell2_back, cell3_back}
-use Rattle.types.proofs.InjectiveAnswers.{answer_back, refusal_there}
+use Rattle.types.specs.Points.{cell2, cell3}
+use Rattle.types.proofs.Injective.{Injective, of_back, cell2_injective, cell3_injective}
+use Rattle.types.proofs.InjectiveAnswers.{answer_injective}
 use Rattle.bresenham.specs.declared.axis.Axis.{Axis}
 use Rattle.bresenham.specs.declared.axis.Primary.{Primary}
 use Rattle.bresenham.specs.declared.line.BresenhamLine2.{BresenhamLine2}
 use Rattle.bresenham.specs.declared.line.BresenhamLine3.{BresenhamLine3}
-use Rattle.bresenham.specs.declared.line.Plotted2.{Plotted2}
-use Rattle.bresenham.specs.declared.line.Plotted2.TheVariants as P2
-use Rattle.bresenham.specs.declared.line.Plotted3.{Plotted3}
-use Rattle.bresenham.specs.declared.line.Plotted3.TheVariants as P3
-use Rattle.bresenham.specs.declared.line.Step2.{Step2}
-use Rattle.bresenham.specs.declared.line.Step2.TheVariants as S2
-use Rattle.bresenham.specs.declared.line.Step3.{Step3}
-use Rattle.bresenham.specs.declared.line.Step3.TheVariants as S3
 use Rattle.bresenham.specs.Axes.{axis, primary}
-use Rattle.bresenham.specs.Lines.{line2, line3, plotted2, plotted3, step2, step3}
+use Rattle.bresenham.specs.Lines.{line2, line3, plotted2, plotted3, step_as, step2, step3}
 
 abbrev pub axis_back : TheLine.Axis → Axis
 axis_back a = record { current = a.current; end = a.end; increment = a.increment; step = a.step; error = a.error }
@@ -50,38 +47,21 @@ line3_back l =
 pub line3_injective : Injective line3
 line3_injective = of_back line3 line3_back (λ l. refl)
 
-abbrev pub step2_back : TheLine.Step → Step2
-step2_back (TheLine.yields c l) = S2.Cell (cell2_back c) (line2_back l)
-step2_back TheLine.none = S2.Done
-
-step2_there : (s : Step2) → step2_back (step2 s) ≡ s
-step2_there (S2.Cell c l) = refl
-step2_there S2.Done = refl
+-- a step's map is injective where those of its cell and of the line after it are
+pub step_injective : {C L : Type 0} (cell : C → List ℤ) (line : L → TheLine.Line) → Injective cell → Injective line → Injective (step_as cell line)
+step_injective cell line i j (Some (c, l)) (Some (d, m)) h = ap₂ (λ c l. Some (c, l)) (i c d (cc h)) (j l m (cc h))
+step_injective cell line i j (Some (c, l)) None h = absurd (cc h)
+step_injective cell line i j None (Some (d, m)) h = absurd (cc h)
+step_injective cell line i j None None h = refl
 
 pub step2_injective : Injective step2
-step2_injective = of_back step2 step2_back step2_there
-
-abbrev pub step3_back : TheLine.Step → Step3
-step3_back (TheLine.yields c l) = S3.Cell (cell3_back c) (line3_back l)
-step3_back TheLine.none = S3.Done
-
-step3_there : (s : Step3) → step3_back (step3 s) ≡ s
-step3_there (S3.Cell c l) = refl
-step3_there S3.Done = refl
+step2_injective = step_injective cell2 line2 cell2_injective line2_injective
 
 pub step3_injective : Injective step3
-step3_injective = of_back step3 step3_back step3_there
-
-plotted2_there : (a : Plotted2) → answer_back (λ l. P2.Line (line2_back l)) P2.Refused (plotted2 a) ≡ a
-plotted2_there (P2.Line l) = refl
-plotted2_there (P2.Refused r) = ap P2.Refused (refusal_there r)
+step3_injective = step_injective cell3 line3 cell3_injective line3_injective
 
 pub plotted2_injective : Injective plotted2
-plotted2_injective = of_back plotted2 (answer_back (λ l. P2.Line (line2_back l)) P2.Refused) plotted2_there
-
-plotted3_there : (a : Plotted3) → answer_back (λ l. P3.Line (line3_back l)) P3.Refused (plotted3 a) ≡ a
-plotted3_there (P3.Line l) = refl
-plotted3_there (P3.Refused r) = ap P3.Refused (refusal_there r)
+plotted2_injective = answer_injective line2 line2_injective
 
 pub plotted3_injective : Injective plotted3
-plotted3_injective = of_back plotted3 (answer_back (λ l. P3.Line (line3_back l)) P3.Refused) plotted3_there
+plotted3_injective = answer_injective line3 line3_injective

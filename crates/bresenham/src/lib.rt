@@ -5,7 +5,9 @@
 mod axis;
 mod following;
 mod line;
+mod lines;
 
 pub use axis::Axis;
-pub use following::cell_after;
-pub use line::{BresenhamLine2, BresenhamLine3, Plotted2, Plotted3, Step2, Step3};
+pub use following::{Cells2, Cells3, cell_after};
+pub use line::{BresenhamLine2, BresenhamLine3};
+pub use lines::Lines;

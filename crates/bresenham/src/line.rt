@@ -1,21 +1,14 @@
-// The line plotter for two and three axes: a line is made between two points, and a step by value gives a cell and the
-// line after it. What happens along an axis is `axis`'s; a function here only joins the axes, so those of two and three
-// axes differ by one call.
-ghost use Rattle.std.specs.Prelude.{◌≡◌, ◌<◌};
-ghost use Rattle.std.specs.Float.{binary64};
-ghost use Rattle.rules.specs.TheLine as TheLine;
-ghost use Rattle.rules.specs.Coordinates.{truncated_point};
-ghost use Rattle.laws.specs.LineSteps.{line_after};
-ghost use Rattle.types.specs.Points.{cell2, cell3, point2, point3};
-ghost use Rattle.bresenham.specs.Axes.{primary};
-ghost use Rattle.bresenham.specs.Lines.{line2, line3, plotted2, plotted3, step2, step3};
+// Lines of two axes and of three. What happens along an axis is `axis`'s; a function here only joins the axes, so those
+// of two and three axes differ by one call.
+ghost use Rattle.bresenham.specs.Lines.{line2, line3, cells2, cells3};
 
 use crate::axis::{Axis, Primary, axis_after, axis_of, cells_yielded, delta, larger};
-use floats::{cell_of, is_finite};
-use types::{Cell2, Cell3, Point2, Point3, Refusal};
+use crate::following::{Cells2, Cells3, cell_after};
+use crate::lines::Lines;
+use floats::{cell_of, followed_cell, is_finite};
+use types::{Cell2, Cell3, Extents2, Extents3, Point2, Point3, Refusal};
 
-// The cells of a line that are still to come. It goes from the start to the end, whichever way that is, and always
-// yields at least one cell: where both points fall within one step, that cell is the end's.
+// A line as C sees it too: its axes, and what `lines` says of any line.
 #[repr(C)]
 #[derive(Clone, Copy)]
 pub struct BresenhamLine2 {
@@ -37,52 +30,28 @@ pub struct BresenhamLine3 {
     pub remaining: u64,
 }
 
-#[derive(Clone, Copy)]
-pub enum Plotted2 {
-    Line(BresenhamLine2),
-    Refused(Refusal),
-}
+impl Lines for Extents2 {
+    type Line = BresenhamLine2;
 
-#[derive(Clone, Copy)]
-pub enum Plotted3 {
-    Line(BresenhamLine3),
-    Refused(Refusal),
-}
+    type Cells = Cells2;
 
-// A cell and the line after it. A line that is done stays as it is.
-#[derive(Clone, Copy)]
-pub enum Step2 {
-    Cell(Cell2, BresenhamLine2),
-    Done,
-}
+    ghost line_of = { line2 };
 
-#[derive(Clone, Copy)]
-pub enum Step3 {
-    Cell(Cell3, BresenhamLine3),
-    Done,
-}
+    ghost cells = { cells2 };
 
-impl BresenhamLine2 {
-    // A line between two points. A delta that is not finite cannot be ordered against the others or counted in steps.
-    pub fn plotter(start: Point2, end: Point2) -> Plotted2
-        ensures { plotted2 result ≡ TheLine.plotter binary64 (point2 start) (point2 end) }
-    {
+    fn longest(start: Point2, end: Point2) -> Result<Primary, Refusal> {
         let dx = delta(start.x, end.x);
         let dy = delta(start.y, end.y);
         if !is_finite(dx) {
-            return Plotted2::Refused(Refusal::Ray);
+            return Err(Refusal::Ray);
         }
         if !is_finite(dy) {
-            return Plotted2::Refused(Refusal::Ray);
+            return Err(Refusal::Ray);
         }
-        let best = larger(1, dy, larger(0, dx, Primary::NONE));
-        Plotted2::Line(BresenhamLine2::between(best, start, end))
+        Ok(larger(1, dy, larger(0, dx, Primary::NONE)))
     }
 
-    // At the start, with nothing added to any axis's error yet.
-    fn between(best: Primary, start: Point2, end: Point2) -> BresenhamLine2
-        ensures { line2 result ≡ TheLine.line_between binary64 (primary best) (point2 start) (point2 end) }
-    {
+    fn between(best: Primary, start: Point2, end: Point2) -> BresenhamLine2 {
         let longest = best.delta;
         BresenhamLine2 {
             x: axis_of(longest, start.x, end.x),
@@ -93,45 +62,38 @@ impl BresenhamLine2 {
         }
     }
 
-    // The end's cell, however far the line has come.
-    pub fn last_cell(self) -> Cell2
-        ensures { cell2 result ≡ truncated_point (TheLine.ends (line2 self).axes) }
-    {
-        let x = self.x;
-        let y = self.y;
+    fn remaining(line: BresenhamLine2) -> u64 {
+        line.remaining
+    }
+
+    fn lacks_primary(line: BresenhamLine2) -> bool {
+        line.primary >= 2
+    }
+
+    fn current_cell(line: BresenhamLine2) -> Cell2 {
+        let x = line.x;
+        let y = line.y;
+        Cell2 {
+            x: cell_of(x.current),
+            y: cell_of(y.current),
+        }
+    }
+
+    fn last_cell(line: BresenhamLine2) -> Cell2 {
+        let x = line.x;
+        let y = line.y;
         Cell2 {
             x: cell_of(x.end),
             y: cell_of(y.end),
         }
     }
 
-    // The end's cell; then nothing remains.
-    fn last_step(self) -> Step2
-        ensures { step2 result ≡ TheLine.last_step (line2 self) }
-    {
-        let x = self.x;
-        let y = self.y;
-        let last = self.last_cell();
-        let rest = BresenhamLine2 {
-            x,
-            y,
-            primary: self.primary,
-            threshold: self.threshold,
-            remaining: 0,
-        };
-        Step2::Cell(last, rest)
-    }
-
-    // Each axis moved on. One less remains, so something has to: whoever calls has tested that.
-    pub fn moved(self) -> BresenhamLine2
-        requires { 0 < self.remaining }
-        ensures { line2 result ≡ line_after binary64 (line2 self) }
-    {
-        let x = self.x;
-        let y = self.y;
-        let primary = self.primary;
-        let threshold = self.threshold;
-        let remaining: u64 = self.remaining - 1;
+    fn moved(line: BresenhamLine2) -> BresenhamLine2 {
+        let x = line.x;
+        let y = line.y;
+        let primary = line.primary;
+        let threshold = line.threshold;
+        let remaining: u64 = line.remaining - 1;
         BresenhamLine2 {
             x: axis_after(x, 0, primary, threshold),
             y: axis_after(y, 1, primary, threshold),
@@ -141,62 +103,59 @@ impl BresenhamLine2 {
         }
     }
 
-    // The current cell, and the line moved on.
-    fn earlier_step(self) -> Step2
-        requires { 0 < self.remaining }
-        ensures { step2 result ≡ TheLine.earlier_step binary64 (line2 self) }
-    {
-        let x = self.x;
-        let y = self.y;
-        let here = Cell2 {
-            x: cell_of(x.current),
-            y: cell_of(y.current),
-        };
-        Step2::Cell(here, self.moved())
+    fn ended(line: BresenhamLine2) -> BresenhamLine2 {
+        BresenhamLine2 {
+            x: line.x,
+            y: line.y,
+            primary: line.primary,
+            threshold: line.threshold,
+            remaining: 0,
+        }
     }
 
-    // One step along the primary axis.
-    pub fn next(self) -> Step2
-        ensures { step2 result ≡ TheLine.step_of binary64 (line2 self) }
-    {
-        let remaining = self.remaining;
-        let primary = self.primary;
-        if remaining == 0 {
-            return Step2::Done;
+    fn followed(line: BresenhamLine2) -> Cells2 {
+        let x = line.x;
+        let y = line.y;
+        Cells2 {
+            x: followed_cell(x.current),
+            y: followed_cell(y.current),
         }
-        if primary >= 2 {
-            return Step2::Done;
+    }
+
+    fn cells_after(now: Cells2, line: BresenhamLine2) -> Cells2 {
+        Cells2 {
+            x: cell_after(now.x, line.x, 0, line.primary, line.threshold),
+            y: cell_after(now.y, line.y, 1, line.primary, line.threshold),
         }
-        if remaining == 1 {
-            return self.last_step();
-        }
-        self.earlier_step()
     }
 }
 
-impl BresenhamLine3 {
-    pub fn plotter(start: Point3, end: Point3) -> Plotted3
-        ensures { plotted3 result ≡ TheLine.plotter binary64 (point3 start) (point3 end) }
-    {
+impl Lines for Extents3 {
+    type Line = BresenhamLine3;
+
+    type Cells = Cells3;
+
+    ghost line_of = { line3 };
+
+    ghost cells = { cells3 };
+
+    fn longest(start: Point3, end: Point3) -> Result<Primary, Refusal> {
         let dx = delta(start.x, end.x);
         let dy = delta(start.y, end.y);
         let dz = delta(start.z, end.z);
         if !is_finite(dx) {
-            return Plotted3::Refused(Refusal::Ray);
+            return Err(Refusal::Ray);
         }
         if !is_finite(dy) {
-            return Plotted3::Refused(Refusal::Ray);
+            return Err(Refusal::Ray);
         }
         if !is_finite(dz) {
-            return Plotted3::Refused(Refusal::Ray);
+            return Err(Refusal::Ray);
         }
-        let best = larger(2, dz, larger(1, dy, larger(0, dx, Primary::NONE)));
-        Plotted3::Line(BresenhamLine3::between(best, start, end))
+        Ok(larger(2, dz, larger(1, dy, larger(0, dx, Primary::NONE))))
     }
 
-    fn between(best: Primary, start: Point3, end: Point3) -> BresenhamLine3
-        ensures { line3 result ≡ TheLine.line_between binary64 (primary best) (point3 start) (point3 end) }
-    {
+    fn between(best: Primary, start: Point3, end: Point3) -> BresenhamLine3 {
         let longest = best.delta;
         BresenhamLine3 {
             x: axis_of(longest, start.x, end.x),
@@ -208,13 +167,29 @@ impl BresenhamLine3 {
         }
     }
 
-    // As for two axes.
-    pub fn last_cell(self) -> Cell3
-        ensures { cell3 result ≡ truncated_point (TheLine.ends (line3 self).axes) }
-    {
-        let x = self.x;
-        let y = self.y;
-        let z = self.z;
+    fn remaining(line: BresenhamLine3) -> u64 {
+        line.remaining
+    }
+
+    fn lacks_primary(line: BresenhamLine3) -> bool {
+        line.primary >= 3
+    }
+
+    fn current_cell(line: BresenhamLine3) -> Cell3 {
+        let x = line.x;
+        let y = line.y;
+        let z = line.z;
+        Cell3 {
+            x: cell_of(x.current),
+            y: cell_of(y.current),
+            z: cell_of(z.current),
+        }
+    }
+
+    fn last_cell(line: BresenhamLine3) -> Cell3 {
+        let x = line.x;
+        let y = line.y;
+        let z = line.z;
         Cell3 {
             x: cell_of(x.end),
             y: cell_of(y.end),
@@ -222,35 +197,13 @@ impl BresenhamLine3 {
         }
     }
 
-    fn last_step(self) -> Step3
-        ensures { step3 result ≡ TheLine.last_step (line3 self) }
-    {
-        let x = self.x;
-        let y = self.y;
-        let z = self.z;
-        let last = self.last_cell();
-        let rest = BresenhamLine3 {
-            x,
-            y,
-            z,
-            primary: self.primary,
-            threshold: self.threshold,
-            remaining: 0,
-        };
-        Step3::Cell(last, rest)
-    }
-
-    // As for two axes.
-    pub fn moved(self) -> BresenhamLine3
-        requires { 0 < self.remaining }
-        ensures { line3 result ≡ line_after binary64 (line3 self) }
-    {
-        let x = self.x;
-        let y = self.y;
-        let z = self.z;
-        let primary = self.primary;
-        let threshold = self.threshold;
-        let remaining: u64 = self.remaining - 1;
+    fn moved(line: BresenhamLine3) -> BresenhamLine3 {
+        let x = line.x;
+        let y = line.y;
+        let z = line.z;
+        let primary = line.primary;
+        let threshold = line.threshold;
+        let remaining: u64 = line.remaining - 1;
         BresenhamLine3 {
             x: axis_after(x, 0, primary, threshold),
             y: axis_after(y, 1, primary, threshold),
@@ -261,35 +214,33 @@ impl BresenhamLine3 {
         }
     }
 
-    fn earlier_step(self) -> Step3
-        requires { 0 < self.remaining }
-        ensures { step3 result ≡ TheLine.earlier_step binary64 (line3 self) }
-    {
-        let x = self.x;
-        let y = self.y;
-        let z = self.z;
-        let here = Cell3 {
-            x: cell_of(x.current),
-            y: cell_of(y.current),
-            z: cell_of(z.current),
-        };
-        Step3::Cell(here, self.moved())
+    fn ended(line: BresenhamLine3) -> BresenhamLine3 {
+        BresenhamLine3 {
+            x: line.x,
+            y: line.y,
+            z: line.z,
+            primary: line.primary,
+            threshold: line.threshold,
+            remaining: 0,
+        }
     }
 
-    pub fn next(self) -> Step3
-        ensures { step3 result ≡ TheLine.step_of binary64 (line3 self) }
-    {
-        let remaining = self.remaining;
-        let primary = self.primary;
-        if remaining == 0 {
-            return Step3::Done;
+    fn followed(line: BresenhamLine3) -> Cells3 {
+        let x = line.x;
+        let y = line.y;
+        let z = line.z;
+        Cells3 {
+            x: followed_cell(x.current),
+            y: followed_cell(y.current),
+            z: followed_cell(z.current),
         }
-        if primary >= 3 {
-            return Step3::Done;
+    }
+
+    fn cells_after(now: Cells3, line: BresenhamLine3) -> Cells3 {
+        Cells3 {
+            x: cell_after(now.x, line.x, 0, line.primary, line.threshold),
+            y: cell_after(now.y, line.y, 1, line.primary, line.threshold),
+            z: cell_after(now.z, line.z, 2, line.primary, line.threshold),
         }
-        if remaining == 1 {
-            return self.last_step();
-        }
-        self.earlier_step()
     }
 }

@@ -16,8 +16,8 @@ use Rattle.types.specs.declared.model.Cuts.{Cuts}
 use Rattle.types.specs.declared.model.Bands.{Bands}
 use Rattle.types.specs.declared.samples.MapSample2.{MapSample2}
 use Rattle.types.specs.declared.samples.MapSample3.{MapSample3}
-use Rattle.grid_map.specs.declared.map2.GridMap2.{GridMap2}
-use Rattle.grid_map.specs.declared.map3.GridMap3.{GridMap3}
+use Rattle.c_types.specs.declared.heads.CMap2.{CMap2}
+use Rattle.c_types.specs.declared.heads.CMap3.{CMap3}
 use Rattle.bresenham.specs.declared.axis.Axis.{Axis}
 use Rattle.bresenham.specs.declared.line.BresenhamLine2.{BresenhamLine2}
 use Rattle.bresenham.specs.declared.line.BresenhamLine3.{BresenhamLine3}
@@ -60,10 +60,10 @@ bands_from m =
       cuts = record { first = (band_from m 0).cut; second = (band_from m 1).cut };
     }
 
-abbrev pub map_of2 : Grid.Head → GridMap2
+abbrev pub map_of2 : Grid.Head → CMap2
 map_of2 h = record { extents = extents_of2 h.extents; model = model_from h.model; frame = record { 0 = h.frame } }
 
-abbrev pub map_of3 : Grid.Head → GridMap3
+abbrev pub map_of3 : Grid.Head → CMap3
 map_of3 h = record { extents = extents_of3 h.extents; bands = bands_from h.model; frame = record { 0 = h.frame } }
 
 abbrev pub cuts_from : List ℕ → Cuts

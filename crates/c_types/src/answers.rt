@@ -3,10 +3,8 @@ ghost use Rattle.std.specs.Prelude.{◌≡◌};
 ghost use Rattle.types.specs.Answers.{mark_answer, count_answer, sweep_answer, move_answer, set_answer, cell_read, odds_answer};
 ghost use Rattle.c_types.specs.Answers.{c_mark, c_count, c_sweep, c_move, c_set, c_read, c_odds};
 
-use crate::refusals::{CRefusal, bare, refusal_to_c};
-use types::{
-    CellRead, CountAnswer, Cuts, MarkAnswer, MoveAnswer, OddsAnswer, SetAnswer, SweepAnswer,
-};
+use crate::refusals::{CRefusal, bare};
+use types::{Cuts, Moved, Refusal, Swept};
 
 // Whether a mark changed the cell.
 #[repr(C)]
@@ -56,109 +54,120 @@ const NO_CUTS: Cuts = Cuts {
     second: 0,
 };
 
-pub fn mark_to_c(answer: MarkAnswer) -> CMarkAnswer
-    ensures { result ≡ c_mark (mark_answer answer) }
-{
-    match answer {
-        MarkAnswer::Changed(changed) => CMarkAnswer {
-            refusal: bare(0),
-            changed,
-        },
-        MarkAnswer::Refused(r) => CMarkAnswer {
-            refusal: refusal_to_c(r),
-            changed: false,
-        },
+impl From<Result<bool, Refusal>> for CMarkAnswer {
+    ghost from_gives = { λ answer result. result ≡ c_mark (mark_answer answer) };
+
+    fn from(answer: Result<bool, Refusal>) -> CMarkAnswer {
+        match answer {
+            Ok(changed) => CMarkAnswer {
+                refusal: bare(0),
+                changed,
+            },
+            Err(r) => CMarkAnswer {
+                refusal: CRefusal::from(r),
+                changed: false,
+            },
+        }
     }
 }
 
-pub fn count_to_c(answer: CountAnswer) -> CCountAnswer
-    ensures { result ≡ c_count (count_answer answer) }
-{
-    match answer {
-        CountAnswer::Count(count) => CCountAnswer {
-            refusal: bare(0),
-            count,
-        },
-        CountAnswer::Refused(r) => CCountAnswer {
-            refusal: refusal_to_c(r),
-            count: 0,
-        },
+impl From<Result<u64, Refusal>> for CCountAnswer {
+    ghost from_gives = { λ answer result. result ≡ c_count (count_answer answer) };
+
+    fn from(answer: Result<u64, Refusal>) -> CCountAnswer {
+        match answer {
+            Ok(count) => CCountAnswer {
+                refusal: bare(0),
+                count,
+            },
+            Err(r) => CCountAnswer {
+                refusal: CRefusal::from(r),
+                count: 0,
+            },
+        }
     }
 }
 
-pub fn sweep_to_c(answer: SweepAnswer) -> CSweepAnswer
-    ensures { result ≡ c_sweep (sweep_answer answer) }
-{
-    match answer {
-        SweepAnswer::Swept {
-            station,
-            count: marked,
-        } => CSweepAnswer {
-            refusal: bare(0),
-            station,
-            count: marked,
-        },
-        SweepAnswer::Refused(r) => CSweepAnswer {
-            refusal: refusal_to_c(r),
-            station: 0,
-            count: 0,
-        },
+impl From<Result<Swept, Refusal>> for CSweepAnswer {
+    ghost from_gives = { λ answer result. result ≡ c_sweep (sweep_answer answer) };
+
+    fn from(answer: Result<Swept, Refusal>) -> CSweepAnswer {
+        match answer {
+            Ok(swept) => CSweepAnswer {
+                refusal: bare(0),
+                station: swept.station,
+                count: swept.count,
+            },
+            Err(r) => CSweepAnswer {
+                refusal: CRefusal::from(r),
+                station: 0,
+                count: 0,
+            },
+        }
     }
 }
 
-pub fn move_to_c(answer: MoveAnswer) -> CMoveAnswer
-    ensures { result ≡ c_move (move_answer answer) }
-{
-    match answer {
-        MoveAnswer::Moved { size, cuts } => CMoveAnswer {
-            refusal: bare(0),
-            count: size,
-            cuts,
-        },
-        MoveAnswer::Refused(r) => CMoveAnswer {
-            refusal: refusal_to_c(r),
-            count: 0,
-            cuts: NO_CUTS,
-        },
+impl From<Result<Moved, Refusal>> for CMoveAnswer {
+    ghost from_gives = { λ answer result. result ≡ c_move (move_answer answer) };
+
+    fn from(answer: Result<Moved, Refusal>) -> CMoveAnswer {
+        match answer {
+            Ok(Moved { size, cuts }) => CMoveAnswer {
+                refusal: bare(0),
+                count: size,
+                cuts,
+            },
+            Err(r) => CMoveAnswer {
+                refusal: CRefusal::from(r),
+                count: 0,
+                cuts: NO_CUTS,
+            },
+        }
     }
 }
 
-pub fn set_to_c(answer: SetAnswer) -> CRefusal
-    ensures { result ≡ c_set (set_answer answer) }
-{
-    match answer {
-        SetAnswer::Done => bare(0),
-        SetAnswer::Refused(r) => refusal_to_c(r),
+impl From<Result<(), Refusal>> for CRefusal {
+    ghost from_gives = { λ answer result. result ≡ c_set (set_answer answer) };
+
+    fn from(answer: Result<(), Refusal>) -> CRefusal {
+        match answer {
+            Ok(()) => bare(0),
+            Err(r) => CRefusal::from(r),
+        }
     }
 }
 
 // What was read of a cell, where the call was answered.
-fn read_to_c(read: CellRead) -> COddsAnswer
-    ensures { result ≡ c_read (cell_read read) }
-{
-    match read {
-        CellRead::Odds(odds) => COddsAnswer {
-            refusal: bare(0),
-            found: true,
-            odds,
-        },
-        CellRead::Nothing => COddsAnswer {
-            refusal: bare(0),
-            found: false,
-            odds: 0.0,
-        },
+impl From<Option<f64>> for COddsAnswer {
+    ghost from_gives = { λ read result. result ≡ c_read (cell_read read) };
+
+    fn from(read: Option<f64>) -> COddsAnswer {
+        match read {
+            Some(odds) => COddsAnswer {
+                refusal: bare(0),
+                found: true,
+                odds,
+            },
+            None => COddsAnswer {
+                refusal: bare(0),
+                found: false,
+                odds: 0.0,
+            },
+        }
     }
 }
 
-pub fn odds_to_c(answer: OddsAnswer) -> COddsAnswer
-    ensures { result ≡ c_odds (odds_answer answer) }
-{
-    match answer {
-        OddsAnswer::Read(read) => read_to_c(read),
-        OddsAnswer::Refused(r) => COddsAnswer {
-            refusal: refusal_to_c(r),
-            found: false,
-            odds: 0.0,
-        },
+impl From<Result<Option<f64>, Refusal>> for COddsAnswer {
+    ghost from_gives = { λ answer result. result ≡ c_odds (odds_answer answer) };
+
+    fn from(answer: Result<Option<f64>, Refusal>) -> COddsAnswer {
+        match answer {
+            Ok(read) => COddsAnswer::from(read),
+            Err(r) => COddsAnswer {
+                refusal: CRefusal::from(r),
+                found: false,
+                odds: 0.0,
+            },
+        }
     }
 }

@@ -1,23 +1,21 @@
 // The answers that hold a place on a map of three axes. Where a call is refused, what was asked for is 0 throughout; a
 // map of zeros is one that every entry refuses with 1.
 ghost use Rattle.std.specs.Prelude.{◌≡◌};
-ghost use Rattle.types.specs.Answers.{cell_answer3, sample_read3, sample_answer3};
-ghost use Rattle.grid_map.specs.Heads.{map_answer3, load_answer3};
+ghost use Rattle.types.specs.Answers.{answer_of, cell_answer3, sample_read3, sample_answer3};
+ghost use Rattle.grid_map.specs.Heads.{head3, loaded_of};
 ghost use Rattle.c_types.specs.Answers.{c_map3, c_load3, c_cell3, c_sample_read3, c_sample3};
 
-use crate::refusals::{CRefusal, bare, refusal_to_c};
-use grid_map::{GridMap3, LoadAnswer3, MapAnswer3};
-use types::{
-    Bands, Cell3, CellAnswer3, Cuts, Extents3, Frame, MapSample3, Pair, SampleAnswer3, SampleRead3,
-    Vector3,
-};
+use crate::heads::CMap3;
+use crate::refusals::{CRefusal, bare};
+use grid_map::{GridMap3, Loaded};
+use types::{Bands, Cell3, Cuts, Extents3, Frame, MapSample3, Pair, Refusal, Vector3};
 
 // A map's head.
 #[repr(C)]
 #[derive(Clone, Copy)]
 pub struct CMapAnswer3 {
     pub refusal: CRefusal,
-    pub map: GridMap3,
+    pub map: CMap3,
 }
 
 // A map's head, and whether its sweep is open.
@@ -25,7 +23,7 @@ pub struct CMapAnswer3 {
 #[derive(Clone, Copy)]
 pub struct CLoadAnswer3 {
     pub refusal: CRefusal,
-    pub map: GridMap3,
+    pub map: CMap3,
     pub running: bool,
 }
 
@@ -51,7 +49,7 @@ const NO_PAIR: Pair = Pair {
     free: 0.0,
 };
 
-const NO_MAP: GridMap3 = GridMap3 {
+const NO_MAP: CMap3 = CMap3 {
     extents: Extents3 { x: 0, y: 0, z: 0 },
     bands: Bands {
         low: NO_PAIR,
@@ -75,83 +73,90 @@ const NO_SAMPLE: MapSample3 = MapSample3 {
     },
 };
 
-pub fn map3_to_c(answer: MapAnswer3) -> CMapAnswer3
-    ensures { result ≡ c_map3 (map_answer3 answer) }
-{
-    match answer {
-        MapAnswer3::Map(map) => CMapAnswer3 {
-            refusal: bare(0),
-            map,
-        },
-        MapAnswer3::Refused(r) => CMapAnswer3 {
-            refusal: refusal_to_c(r),
-            map: NO_MAP,
-        },
+impl From<Result<GridMap3, Refusal>> for CMapAnswer3 {
+    ghost from_gives = { λ answer result. result ≡ c_map3 (answer_of head3 answer) };
+
+    fn from(answer: Result<GridMap3, Refusal>) -> CMapAnswer3 {
+        match answer {
+            Ok(map) => CMapAnswer3 {
+                refusal: bare(0),
+                map: CMap3::from(map),
+            },
+            Err(r) => CMapAnswer3 {
+                refusal: CRefusal::from(r),
+                map: NO_MAP,
+            },
+        }
     }
 }
 
-pub fn load3_to_c(answer: LoadAnswer3) -> CLoadAnswer3
-    ensures { result ≡ c_load3 (load_answer3 answer) }
-{
-    match answer {
-        LoadAnswer3::Record {
-            map: loaded,
-            running,
-        } => CLoadAnswer3 {
-            refusal: bare(0),
-            map: loaded,
-            running,
-        },
-        LoadAnswer3::Refused(r) => CLoadAnswer3 {
-            refusal: refusal_to_c(r),
-            map: NO_MAP,
-            running: false,
-        },
+impl From<Result<Loaded<GridMap3>, Refusal>> for CLoadAnswer3 {
+    ghost from_gives = { λ answer result. result ≡ c_load3 (answer_of (loaded_of head3) answer) };
+
+    fn from(answer: Result<Loaded<GridMap3>, Refusal>) -> CLoadAnswer3 {
+        match answer {
+            Ok(loaded) => CLoadAnswer3 {
+                refusal: bare(0),
+                map: CMap3::from(loaded.map),
+                running: loaded.running,
+            },
+            Err(r) => CLoadAnswer3 {
+                refusal: CRefusal::from(r),
+                map: NO_MAP,
+                running: false,
+            },
+        }
     }
 }
 
-pub fn cell3_to_c(answer: CellAnswer3) -> CCellAnswer3
-    ensures { result ≡ c_cell3 (cell_answer3 answer) }
-{
-    match answer {
-        CellAnswer3::Cell(cell) => CCellAnswer3 {
-            refusal: bare(0),
-            cell,
-        },
-        CellAnswer3::Refused(r) => CCellAnswer3 {
-            refusal: refusal_to_c(r),
-            cell: Cell3 { x: 0, y: 0, z: 0 },
-        },
+impl From<Result<Cell3, Refusal>> for CCellAnswer3 {
+    ghost from_gives = { λ answer result. result ≡ c_cell3 (cell_answer3 answer) };
+
+    fn from(answer: Result<Cell3, Refusal>) -> CCellAnswer3 {
+        match answer {
+            Ok(cell) => CCellAnswer3 {
+                refusal: bare(0),
+                cell,
+            },
+            Err(r) => CCellAnswer3 {
+                refusal: CRefusal::from(r),
+                cell: Cell3 { x: 0, y: 0, z: 0 },
+            },
+        }
     }
 }
 
 // What was sampled, where the call was answered.
-fn sample_read_to_c(read: SampleRead3) -> CSampleAnswer3
-    ensures { result ≡ c_sample_read3 (sample_read3 read) }
-{
-    match read {
-        SampleRead3::Sample(sample) => CSampleAnswer3 {
-            refusal: bare(0),
-            found: true,
-            sample,
-        },
-        SampleRead3::Nothing => CSampleAnswer3 {
-            refusal: bare(0),
-            found: false,
-            sample: NO_SAMPLE,
-        },
+impl From<Option<MapSample3>> for CSampleAnswer3 {
+    ghost from_gives = { λ read result. result ≡ c_sample_read3 (sample_read3 read) };
+
+    fn from(read: Option<MapSample3>) -> CSampleAnswer3 {
+        match read {
+            Some(sample) => CSampleAnswer3 {
+                refusal: bare(0),
+                found: true,
+                sample,
+            },
+            None => CSampleAnswer3 {
+                refusal: bare(0),
+                found: false,
+                sample: NO_SAMPLE,
+            },
+        }
     }
 }
 
-pub fn sample3_to_c(answer: SampleAnswer3) -> CSampleAnswer3
-    ensures { result ≡ c_sample3 (sample_answer3 answer) }
-{
-    match answer {
-        SampleAnswer3::Read(read) => sample_read_to_c(read),
-        SampleAnswer3::Refused(r) => CSampleAnswer3 {
-            refusal: refusal_to_c(r),
-            found: false,
-            sample: NO_SAMPLE,
-        },
+impl From<Result<Option<MapSample3>, Refusal>> for CSampleAnswer3 {
+    ghost from_gives = { λ answer result. result ≡ c_sample3 (sample_answer3 answer) };
+
+    fn from(answer: Result<Option<MapSample3>, Refusal>) -> CSampleAnswer3 {
+        match answer {
+            Ok(read) => CSampleAnswer3::from(read),
+            Err(r) => CSampleAnswer3 {
+                refusal: CRefusal::from(r),
+                found: false,
+                sample: NO_SAMPLE,
+            },
+        }
     }
 }

@@ -114,36 +114,38 @@ fn in_room(needed: u64) -> CRefusal
     }
 }
 
-pub fn refusal_to_c(refusal: Refusal) -> CRefusal
-    ensures { result ≡ c_refusal (refusal_of refusal) }
-{
-    match refusal {
-        Refusal::DimensionTooSmall { axis, extent } => on_grid(1, 2, axis, 0, extent, 0),
-        Refusal::CapacityOverflow => bare(2),
-        Refusal::Model => bare(3),
-        Refusal::Buffer => bare(4),
-        Refusal::OutOfBounds {
-            axis,
-            index,
-            extent,
-            axes,
-        } => on_grid(5, 4, axis, index, extent, axes),
-        Refusal::NonFiniteCoordinate { axis } => on_grid(6, 1, axis, 0, 0, 0),
-        Refusal::Ray => bare(7),
-        Refusal::RayInList { place, count } => in_list(place, count),
-        Refusal::Beams => bare(8),
-        Refusal::Frame => bare(9),
-        Refusal::Record { offset } => at_place(10, offset),
-        Refusal::Room { needed } => in_room(needed),
-        Refusal::Sweep { offset } => at_place(12, offset),
-        Refusal::Odds => bare(13),
-        Refusal::Lists => bare(14),
-        Refusal::Cuts => bare(15),
-        Refusal::Edition => bare(16),
-        Refusal::Profile => bare(18),
-        Refusal::Column { column } => at_place(17, column),
-        Refusal::Sizes => bare(19),
-        Refusal::Charts => bare(20),
-        Refusal::Chart => bare(21),
+impl From<Refusal> for CRefusal {
+    ghost from_gives = { λ refusal result. result ≡ c_refusal (refusal_of refusal) };
+
+    fn from(refusal: Refusal) -> CRefusal {
+        match refusal {
+            Refusal::DimensionTooSmall { axis, extent } => on_grid(1, 2, axis, 0, extent, 0),
+            Refusal::CapacityOverflow => bare(2),
+            Refusal::Model => bare(3),
+            Refusal::Buffer => bare(4),
+            Refusal::OutOfBounds {
+                axis,
+                index,
+                extent,
+                axes,
+            } => on_grid(5, 4, axis, index, extent, axes),
+            Refusal::NonFiniteCoordinate { axis } => on_grid(6, 1, axis, 0, 0, 0),
+            Refusal::Ray => bare(7),
+            Refusal::RayInList { place, count } => in_list(place, count),
+            Refusal::Beams => bare(8),
+            Refusal::Frame => bare(9),
+            Refusal::Record { offset } => at_place(10, offset),
+            Refusal::Room { needed } => in_room(needed),
+            Refusal::Sweep { offset } => at_place(12, offset),
+            Refusal::Odds => bare(13),
+            Refusal::Lists => bare(14),
+            Refusal::Cuts => bare(15),
+            Refusal::Edition => bare(16),
+            Refusal::Profile => bare(18),
+            Refusal::Column { column } => at_place(17, column),
+            Refusal::Sizes => bare(19),
+            Refusal::Charts => bare(20),
+            Refusal::Chart => bare(21),
+        }
     }
 }

@@ -1,17 +1,15 @@
 -- How large grades and charts are, and good cuts as facts. Assumes nothing.
-use Prim.Native.Nat.{ℕ, zero, suc, ◌+◌, ◌-◌, ◌*◌, ◌≤◌, ◌<◌}
-use mathlib.Core.Path.{◌≡◌, refl, sym, ap, ◌∙◌}
+use Prim.Native.Nat.{ℕ, zero, suc, ◌*◌, ◌≤◌, ◌<◌}
+use mathlib.Core.Path.{◌≡◌, refl, ◌∙◌}
 use mathlib.Core.Bool.{Bool, true, false, cond, ◌&&◌}
-use mathlib.Core.List.{List, [], ◌∷◌, ◌++◌}
-use native.Mathlib.Nat.{mul-suc, suc-mul, zero-mul, add-mul}
+use mathlib.Core.List.{List, [], ◌∷◌}
+use native.Mathlib.Nat.{mul-suc}
 use native.Mathlib.Omega.{arith}
-use lib.Dec.{T, ltb, eqb, ltb→lt}
-use lib.Ieee.{Float, nan, le}
+use lib.Dec.{T, ltb, ltb→lt}
+use lib.Ieee.{Float, le}
 use lib.Ieee.Fits.{and_l, and_r}
-use lib.ListN.{length, get_or, take, drop, length-append, length-drop}
-use lib.Seq.{drop_at, take_at, drop-append-le, take-append-le, take_all}
-use borrow.Author.Tests.{eqb-true, eqb-false}
-use Rattle.rules.specs.LayerChart.{Cuts, good_cuts, limits, reaches, reached, eighths, larger, band_cover, stacked, cells_between, five_of, column_chart, chart_of}
+use lib.ListN.{length, length-append}
+use Rattle.rules.specs.LayerChart.{Cuts, good_cuts, limits, reaches, reached, eighths, larger, band_cover, column_chart, chart_of}
 
 -- ---- no grade is above 8
 pub reaches-most : (x l : Float) → reaches x l ≤ 1

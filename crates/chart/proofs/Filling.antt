@@ -1,13 +1,13 @@
 -- A chart column by column: the columns before one are written, and the rest of the list stands as it was. Assumes
 -- nothing.
-use Prim.Native.Nat.{ℕ, suc, ◌+◌, ◌-◌, ◌*◌, ◌≤◌, ◌<◌}
+use Prim.Native.Nat.{ℕ, ◌+◌, ◌*◌, ◌≤◌}
 use mathlib.Core.Path.{◌≡◌, refl, sym, ap, ◌∙◌}
 use mathlib.Core.List.{List, ◌++◌}
 use native.Mathlib.Nat.{mul-suc}
 use native.Mathlib.Numerals.{add-one}
 use native.Mathlib.Omega.{arith}
 use lib.Ieee.{Float}
-use lib.ListN.{length, take, drop, length-append, length-drop}
+use lib.ListN.{length, drop, length-append, length-drop}
 use lib.Seq.{sets, sets-eq, take_at, drop-append-add, drop-drop}
 use Rattle.rules.specs.LayerChart.{Cuts, column_chart, chart_of}
 use Rattle.chart.proofs.Bounds.{chart-length}
@@ -26,11 +26,6 @@ put_next written five chart₀ k size five_size room =
 module _ (columns layers : ℕ) (ceiling : Float) (cuts : Cuts) (odds : List Float) (chart₀ : List ℕ) where
   abbrev pub Written : ℕ → List ℕ → Type 0
   Written k chart = chart ≡ chart_of columns layers ceiling cuts odds k ++ drop (5 * k) chart₀
-
-  pub written_size : (k : ℕ) (chart : List ℕ) → Written k chart → 5 * k ≤ length chart₀ → length chart ≡ length chart₀
-  written_size k chart w room =
-      ap length w ∙ length-append (chart_of columns layers ceiling cuts odds k) (drop (5 * k) chart₀)
-      ∙ omega (arith, length-drop (5 * k) chart₀, chart-length columns layers ceiling cuts odds k)
 
   pub one_more : (k : ℕ) (chart : List ℕ) → Written k chart → 5 * (k + 1) ≤ length chart₀
       → Written (k + 1) (sets chart (5 * k) (column_chart columns layers ceiling cuts odds k))

@@ -3,12 +3,10 @@
 -- nothing.
 use Prim.Native.Nat.{ℕ, ◌+◌, ◌-◌, ◌*◌, ◌^◌}
 use mathlib.Core.Path.{◌≡◌, refl}
-use mathlib.Core.Bool.{Bool, true, false, ◌&&◌}
-use mathlib.Core.List.{List, [], ◌∷◌}
+use mathlib.Core.Bool.{Bool, true, ◌&&◌}
+use mathlib.Core.List.{[], ◌∷◌}
 use lib.Dec.{ltb}
-use lib.IntN.{negsuc}
-use lib.Ieee.{Float, fin, binary64, of_bits, neg}
-use Rattle.rules.specs.Floats.{zero_f}
+use lib.Ieee.{Float, binary64, of_bits, neg}
 use Rattle.rules.specs.LayerChart.{limits}
 
 -- m * 2^-52 is less than half a step of 2^-52, and of a smaller float's 2^-53, from d * 10^-16

@@ -1,8 +1,8 @@
 -- The columns, layers and cells of three extents, as the code multiplies them. Assumes nothing.
-use Prim.Native.Nat.{ℕ, ◌*◌, ◌≤◌}
+use Prim.Native.Nat.{ℕ, ◌*◌}
 use mathlib.Core.Path.{◌≡◌, refl, sym, ap, ◌∙◌}
 use mathlib.Core.List.{[], ◌∷◌}
-use native.Mathlib.Nat.{mul-one, mul_comm, mul_assoc, mul-le-mul}
+use native.Mathlib.Nat.{mul-one, mul_comm, mul_assoc}
 use Rattle.rules.specs.TheGridAndItsBounds.{last_extent, layer_of}
 use Rattle.rules.specs.TheGridAndItsBounds.{cells}
 
@@ -21,6 +21,3 @@ module _ (x y z : ℕ) where
 
   pub cells_by_layer : cells (x ∷ y ∷ z ∷ []) ≡ z * (x * y)
   cells_by_layer = cells_are ∙ sym (mul_assoc x y z) ∙ mul_comm (x * y) z
-
-  pub product_most : x ≤ 4096 → y ≤ 4096 → x * y ≤ 16777216
-  product_most p q = mul-le-mul p q

@@ -1,8 +1,8 @@
--- A column's cells one above another: the lowest of those left, and where it stands in the lent odds. Assumes nothing.
-use Prim.Native.Nat.{ℕ, suc, ◌+◌, ◌-◌, ◌*◌, ◌≤◌, ◌<◌}
+-- A column's cells one above another: the lowest of those left. Assumes nothing.
+use Prim.Native.Nat.{ℕ, suc, ◌+◌, ◌-◌, ◌*◌, ◌<◌}
 use mathlib.Core.Path.{◌≡◌, refl, ap, ◌∙◌}
 use mathlib.Core.List.{List, [], ◌∷◌}
-use native.Mathlib.Nat.{add-mul, one-mul, mul-le-mul_right}
+use native.Mathlib.Nat.{add-mul, one-mul}
 use native.Mathlib.Omega.{arith}
 use lib.Ieee.{Float, nan}
 use lib.ListN.{get_or}
@@ -24,9 +24,3 @@ module _ (columns column : ℕ) where
   pub none_left : (odds : List Float) (z : ℕ) → cells_between columns odds column z z ≡ []
   unfolding cells_between stacked
   none_left odds z = let none : z - z ≡ 0 = omega arith in rw none refl
-
-  -- a cell under the top is in the list
-  pub in_list_lem : (z to size : ℕ) → column < columns → z < to → to * columns ≤ size → column + z * columns < size
-  in_list_lem z to size h g k =
-      let m : (z + 1) * columns ≤ to * columns = mul-le-mul_right columns (omega arith) in
-      omega (arith, add-mul z 1 columns, one-mul columns)

@@ -9,60 +9,53 @@ ghost use Rattle.checks.specs.Checking.{check_of};
 ghost use Rattle.chart.specs.Charts.{cuts_of, chart_outcome};
 
 use crate::grades::{band_cover, put_column};
-use checks::Check;
-use types::{Cuts, Extents3, Refusal, SetAnswer};
+use types::{Cuts, Extents3, Refusal};
 
 // Whether a column holds NaN, which alone differs from itself.
 fn holds_nan(odds: &[f64], columns: usize, layers: usize, column: usize) -> bool
-    requires fact_1 { column < columns }
-    requires fact_2 { layers * columns ≤ length odds.now }
+    requires within { column < columns }
+    requires layers_in_odds { layers * columns ≤ length odds.now }
     ensures { result ≡ any_nan (cells_between columns odds.now column 0 layers) }
 {
-    let mut z: usize = 0;
-    while z < layers {
+    for z in 0..layers {
         let x = odds[column + z * columns];
         if x != x {
             return true;
         }
-        z += 1;
     }
     false
 }
 
 // The first column that does is refused.
-fn nan_check(odds: &[f64], columns: usize, layers: usize) -> Check
+fn nan_check(odds: &[f64], columns: usize, layers: usize) -> Result<(), Refusal>
     requires { layers * columns ≤ length odds.now }
     ensures { check_of result ≡ first_nan columns layers odds.now columns 0 }
 {
-    let mut column: usize = 0;
-    while column < columns {
+    for column in 0..columns {
         if holds_nan(odds, columns, layers, column) {
-            return Check::Refused(Refusal::Column {
+            return Err(Refusal::Column {
                 column: column as u64,
             });
         }
-        column += 1;
     }
-    Check::Passed
+    Ok(())
 }
 
 // Each column's numbers. The cuts are good, and there is room.
 fn fill(odds: &[f64], columns: usize, layers: usize, ceiling: f64, cuts: Cuts, chart: &mut [u16])
-    requires fact_1 { good_cuts (cuts_of cuts) layers ≡ true }
-    requires fact_2 { layers * columns ≤ length odds.now }
-    requires fact_3 { 5 * columns ≤ length chart.old }
+    requires cuts_good { good_cuts (cuts_of cuts) layers ≡ true }
+    requires layers_in_odds { layers * columns ≤ length odds.now }
+    requires room { 5 * columns ≤ length chart.old }
     ensures { chart.new
         ≡ chart_of columns layers ceiling (cuts_of cuts) odds.now columns ++ drop (5 * columns) chart.old }
 {
     let first = cuts.first as usize;
     let second = cuts.second as usize;
-    let mut column: usize = 0;
-    while column < columns {
+    for column in 0..columns {
         let low = band_cover(odds, ceiling, columns, column, 0, first);
         let middle = band_cover(odds, ceiling, columns, column, first, second);
         let high = band_cover(odds, ceiling, columns, column, second, layers);
         put_column(chart, 5 * column, low, middle, high);
-        column += 1;
     }
 }
 
@@ -74,10 +67,10 @@ pub fn chart_of(
     cuts: Cuts,
     odds: &[f64],
     chart: &mut [u16],
-) -> SetAnswer
-    requires fact_1 { InBounds (extents3 extents) }
-    requires fact_2 { good_cuts (cuts_of cuts) (last_extent (extents3 extents)) ≡ true }
-    requires fact_3 { length odds.now ≡ cells (extents3 extents) }
+) -> Result<(), Refusal>
+    requires in_bounds { InBounds (extents3 extents) }
+    requires cuts_good { good_cuts (cuts_of cuts) (last_extent (extents3 extents)) ≡ true }
+    requires one_per_cell { length odds.now ≡ cells (extents3 extents) }
     ensures { chart_outcome result chart.new
         ≡ charted (layer_of (extents3 extents)) (last_extent (extents3 extents)) ceiling (cuts_of cuts) odds.now chart.old }
 {
@@ -85,15 +78,11 @@ pub fn chart_of(
     let layers = extents.z as usize;
     let needed = 5 * columns;
     if chart.len() < needed {
-        return SetAnswer::Refused(Refusal::Room {
+        return Err(Refusal::Room {
             needed: needed as u64,
         });
     }
-    match nan_check(odds, columns, layers) {
-        Check::Refused(r) => SetAnswer::Refused(r),
-        Check::Passed => {
-            fill(odds, columns, layers, ceiling, cuts, chart);
-            SetAnswer::Done
-        }
-    }
+    nan_check(odds, columns, layers)?;
+    fill(odds, columns, layers, ceiling, cuts, chart);
+    Ok(())
 }

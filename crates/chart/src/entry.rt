@@ -6,9 +6,9 @@ ghost use Rattle.grid_map.specs.Heads.{head2, head3};
 ghost use Rattle.chart.specs.Charts.{chart_outcome};
 
 use crate::columns::chart_of;
-use checks::{Check, Uses};
+use checks::Uses;
 use grid_map::{GridMap2, GridMap3};
-use types::{Refusal, SetAnswer};
+use types::Refusal;
 
 const CHART: Uses = Uses {
     model: true,
@@ -26,25 +26,18 @@ const NO_CHART: Uses = Uses {
 
 // The chart, five numbers a column from the first of the list on: the low, middle and high band and the total by
 // maximum overlap, each of 8, and the total by random overlap, of 512. What follows them in the list stays.
-pub fn layer_chart3(map: GridMap3, odds: &[f64], chart: &mut [u16]) -> SetAnswer
+pub fn layer_chart3(map: GridMap3, odds: &[f64], chart: &mut [u16]) -> Result<(), Refusal>
     ensures { chart_outcome result chart.new ≡ layer_chart_entry (head3 map) odds.now chart.old }
 {
-    match map.check(CHART, odds.len(), 0) {
-        Check::Refused(r) => SetAnswer::Refused(r),
-        Check::Passed => {
-            let extents = map.extents;
-            let bands = map.bands;
-            chart_of(extents, bands.ceiling, bands.cuts, odds, chart)
-        }
-    }
+    map.check(CHART, odds.len(), 0)?;
+    let bands = map.model;
+    chart_of(map.extents, bands.ceiling, bands.cuts, odds, chart)
 }
 
 // A map of two axes has no cuts.
-pub fn layer_chart2(map: GridMap2, chart: &mut [u16]) -> SetAnswer
+pub fn layer_chart2(map: GridMap2, chart: &mut [u16]) -> Result<(), Refusal>
     ensures { chart_outcome result chart.new ≡ no_cuts_entry (head2 map) chart.old }
 {
-    match map.check(NO_CHART, 0, 0) {
-        Check::Refused(r) => SetAnswer::Refused(r),
-        Check::Passed => SetAnswer::Refused(Refusal::Cuts),
-    }
+    map.check(NO_CHART, 0, 0)?;
+    Err(Refusal::Cuts)
 }

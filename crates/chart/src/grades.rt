@@ -3,7 +3,7 @@ ghost use Rattle.std.specs.Prelude.{◌≡◌, ◌+◌, ◌*◌, ◌≤◌, ◌<
 ghost use Rattle.std.proofs.lemmas.List.Edits.{sets};
 ghost use Rattle.rules.specs.LayerChart.{reaches, eighths, band_cover, cells_between, five_of};
 
-use crate::overlap::{larger_of, maximum_overlap, random_overlap};
+use crate::overlap::{maximum_overlap, random_overlap};
 
 // 1 where the odds are at or above a limit.
 fn at_limit(odds: f64, limit: f64) -> u16
@@ -41,27 +41,25 @@ pub fn band_cover(
     from: usize,
     to: usize,
 ) -> u16
-    requires fact_1 { column < columns }
-    requires fact_2 { from ≤ to }
-    requires fact_3 { to * columns ≤ length odds.now }
+    requires within { column < columns }
+    requires upwards { from ≤ to }
+    requires layers_in_odds { to * columns ≤ length odds.now }
     ensures { result ≡ band_cover ceiling (cells_between columns odds.now column from to) }
 {
     let mut most: u16 = 0;
-    let mut z = to;
-    while z > from {
-        z -= 1;
+    for z in (from..to).rev() {
         let cell = cell_eighths(ceiling, odds[column + z * columns]);
-        most = larger_of(cell, most);
+        most = cell.max(most);
     }
     most
 }
 
 // A column's numbers from this place on: its bands, and the two totals of them. No band is above 8, and there is room.
 pub fn put_column(chart: &mut [u16], at: usize, low: u16, middle: u16, high: u16)
-    requires fact_1 { at + 5 ≤ length chart.old }
-    requires fact_2 { low ≤ 8 }
-    requires fact_3 { middle ≤ 8 }
-    requires fact_4 { high ≤ 8 }
+    requires room { at + 5 ≤ length chart.old }
+    requires low_most { low ≤ 8 }
+    requires middle_most { middle ≤ 8 }
+    requires high_most { high ≤ 8 }
     ensures { chart.new ≡ sets chart.old at (five_of low middle high) }
 {
     chart[at] = low;

@@ -1,5 +1,5 @@
 -- Checks and what an entry uses, as the rules' values; and the checks that do not depend on the axes. Definitions only.
-use Rattle.std.specs.Prelude.{ℕ, Bool, eqb}
+use Rattle.std.specs.Prelude.{ℕ, Bool, eqb, Result, Ok, Err}
 use Rattle.std.proofs.Math.Option.{Option, some, none}
 use Rattle.rules.specs.RefusalNumbers.{Refusal, bad_model, bad_cuts, bad_buffer, bad_frame}
 use Rattle.rules.specs.RefusalNumbers.Entries as Entries
@@ -12,10 +12,10 @@ use Rattle.types.specs.declared.points.Extents2.{Extents2}
 use Rattle.types.specs.declared.points.Extents3.{Extents3}
 use Rattle.types.specs.declared.model.Bands.{Bands}
 use Rattle.types.specs.Refusals.{refusal_of}
+use Rattle.types.specs.declared.refusal.Refusal as Code
 use Rattle.types.specs.declared.frames.Frame.{Frame}
 use Rattle.types.specs.declared.model.Model.{Model}
-use Rattle.checks.specs.declared.Check as Check
-use Rattle.checks.specs.declared.Uses.{Uses}
+use Rattle.checks.specs.declared.uses.Uses.{Uses}
 
 -- a head of these
 abbrev pub head_of2 : Extents2 → Model → Frame → Grid.Head
@@ -24,9 +24,9 @@ head_of2 e model frame = record { extents = extents2 e; model = model_of model; 
 abbrev pub head_of3 : Extents3 → Bands → Frame → Grid.Head
 head_of3 e bands frame = record { extents = extents3 e; model = bands_of e bands; frame = frame.0 }
 
-abbrev pub check_of : Check.Check → Option Refusal
-check_of Check.TheVariants.Passed = none
-check_of (Check.TheVariants.Refused r) = some (refusal_of r)
+abbrev pub check_of : Result (Unit {0}) Code.Refusal → Option Refusal
+check_of (Ok x) = none
+check_of (Err r) = some (refusal_of r)
 
 abbrev pub uses_of : Uses → Entries.Uses
 uses_of u = record { model = u.model; odds = u.odds; stamps = u.stamps; frame = u.frame }

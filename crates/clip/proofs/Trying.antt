@@ -1,6 +1,6 @@
 -- A beam, tried and clipped, in every format and over any number of axes, by what the code's calls answered. Assumes
 -- nothing.
-use Rattle.std.proofs.Common.{◌≡◌, ℕ, ◌≤◌, Bool, true, false, cond, ◌&&◌, T, List, length, sym, refl, ap, ◌∙◌, subst}
+use Rattle.std.proofs.Common.{◌≡◌, ℕ, ◌≤◌, Bool, true, false, cond, ◌&&◌, T, List, length, sym, ap, ◌∙◌, subst}
 use mathlib.Core.Option.{Option, some, none}
 use lib.Ieee.{Float, Format}
 use Rattle.rules.specs.Floats.{zero_f, one_f, all_finite}
@@ -49,13 +49,3 @@ module _ (f : Format) (es : List ℕ) (origin endpoint : List Float) where
       → b ≡ all_within f es endpoint → b ≡ true → c ≡ clip f es origin endpoint → some c ≡ tried
   on_the_map h l m p s q t c =
       rw (all-finite f es origin h l (subst T (sym (sym p ∙ s)) tt), all-finite f es endpoint h m (subst T (sym (sym q ∙ t)) tt)) (ap some c)
-
-  module _ {a : Bool} (p : a ≡ all_finite origin) where
-    pub both-finite : {b : Bool} {c : Option Clipped} → a ≡ true → b ≡ all_finite endpoint → b ≡ true → c ≡ clip f es origin endpoint → some c ≡ tried
-    both-finite s q t c = rw (sym p ∙ s, sym q ∙ t) (ap some c)
-
-    pub ends_nowhere : {b : Bool} → a ≡ true → b ≡ all_finite endpoint → b ≡ false → none ≡ tried
-    ends_nowhere s q t = simp (sym p ∙ s, sym q ∙ t)
-
-    pub starts_nowhere : a ≡ false → none ≡ tried
-    starts_nowhere s = simp (sym p ∙ s)

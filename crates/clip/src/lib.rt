@@ -3,8 +3,11 @@
 #![tactic(auto)]
 
 mod clip;
+mod clips;
 mod slabs;
 mod tried;
 
-pub use clip::{Clip2, Clip3, clip_segment2, clip_segment3};
-pub use tried::{Tried2, Tried3, clip_beam2, clip_beam3};
+pub use clip::clip_segment;
+pub use clips::Clips;
+pub use slabs::Span;
+pub use tried::clip_beam;

@@ -1,5 +1,5 @@
 // One axis's part of clipping a beam to the map: its slab, whether both ends lie beyond its upper face, the clamp, and
-// a point of the beam. `clip` joins two or three of them.
+// a point of the beam. `clips` joins two or three of them.
 ghost use Rattle.std.specs.Prelude.{◌≡◌, ◌&&◌};
 ghost use Rattle.std.specs.Float.{binary64};
 ghost use Rattle.std.specs.Float.Ieee.{le, add, mul};
@@ -16,10 +16,11 @@ pub struct Span {
     pub exit: f64,
 }
 
-#[derive(Clone, Copy)]
-pub enum Passage {
-    Open(Span),
-    Miss,
+impl Span {
+    pub const WHOLE: Span = Span {
+        entry: 0.0,
+        exit: 1.0,
+    };
 }
 
 fn larger_of(a: f64, b: f64) -> f64
@@ -34,30 +35,30 @@ fn smaller_of(a: f64, b: f64) -> f64
     if b < a { b } else { a }
 }
 
-fn cut_to(near: f64, far: f64, s: Span) -> Passage
+fn cut_to(near: f64, far: f64, s: Span) -> Option<Span>
     ensures { passage_of result ≡ OneBeam.cut_to near far (span_of s) }
 {
     let entry = larger_of(s.entry, near);
     let exit = smaller_of(s.exit, far);
     if entry > exit {
-        return Passage::Miss;
+        return None;
     }
-    Passage::Open(Span { entry, exit })
+    Some(Span { entry, exit })
 }
 
 // One slab. Parallel to it, a beam is either wholly inside or misses.
-pub fn slab(extent: u64, origin: f64, direction: f64, s: Span) -> Passage
+pub fn slab(extent: u64, origin: f64, direction: f64, s: Span) -> Option<Span>
     ensures { passage_of result ≡ OneBeam.slab binary64 extent origin direction (span_of s) }
 {
     let limit = std::num::nearest_u64_to_f64(extent);
     if direction == 0.0 {
         if origin < 0.0 {
-            return Passage::Miss;
+            return None;
         }
         if origin >= limit {
-            return Passage::Miss;
+            return None;
         }
-        return Passage::Open(s);
+        return Some(s);
     }
     let near = (0.0 - origin) / direction;
     let far = (limit - origin) / direction;

@@ -3,4 +3,4 @@ pub mod Bands
 pub mod Grids
 pub mod Sounds
 pub mod Steps
-pub mod Loads
+pub mod Taken

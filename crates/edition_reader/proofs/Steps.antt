@@ -13,14 +13,14 @@ use Rattle.rules.specs.RefusalNumbers.{Refusal, broken_record}
 use Rattle.rules.specs.RefusalNumbers.Entries.{or_else}
 use Rattle.rules.specs.TheGridAndItsBounds.{Model, cuts_in_bounds}
 use Rattle.rules.specs.Fields.{floats_in, head_size, field_size, field_here, contents, sound_here}
-use Rattle.rules.specs.MapRecord.{extents_field, model_length, model_field, frame_length, frame_field, row_tag, row_length, row_field}
+use Rattle.rules.specs.MapRecord.{extents_length, extents_field, model_length, model_field, frame_length, frame_field, row_tag, row_length, row_field}
 use Rattle.rules.specs.EditionTwo.{Kept, byte_length, edition_field, pair_field, cuts_tag, cuts_length, cuts_for, open_field, marks_running, stamps_field, row_size, bands_size, edition_of}
 use Rattle.rows.specs.Rows.{refusal_in, unless_sound, rows_broken, rows_refusal}
 use Rattle.rows.proofs.Shapes.{Shape}
 use Rattle.rows.proofs.Odds.{odds_by_ceiling}
 use Rattle.open_rows.specs.OpenRows.{open_refusal}
 use Rattle.record_reader.specs.Reading.{end_refusal, rows_and_end}
-use Rattle.edition_reader.specs.Editions.{open_and_end, after_frame, after_bands, cuts_at, cuts_broken, bands_broken, bands_here, after_extents, bands_at, extents_here}
+use Rattle.edition_reader.specs.Editions.{open_and_end, after_frame, after_bands, cuts_at, cuts_broken, bands_broken, bands_here, after_extents, extents_here}
 use Rattle.edition_reader.proofs.Bands.{bands_part}
 use Rattle.edition_reader.proofs.Sounds.{edition_refusal}
 
@@ -88,6 +88,17 @@ module _ (m k : Model) (same : m.ceiling ≡ k.ceiling) where
       ) refl
 
 -- ---- the bands
+-- there is a pair, whose ceiling all have
+pub bands_some : (n : ℕ) → field_size model_length ≤ bands_size n
+unfolding bands_size
+bands_some zero = omega arith
+bands_some (suc n) = omega arith
+
+ceiling_is : (n : ℕ) (es rest : List ℕ) → (contents model_field rest).ceiling ≡ (bands_here n es rest).ceiling
+unfolding bands_here
+ceiling_is zero es rest = refl
+ceiling_is (suc n) es rest = refl
+
 module _ (es : List ℕ) (at : ℕ) (bs : List ℕ) where
   abbrev rest : List ℕ
   rest = drop at bs
@@ -96,14 +107,13 @@ module _ (es : List ℕ) (at : ℕ) (bs : List ℕ) where
   size = field_size model_length
 
   -- one pair
-  pub pair_off : sound_here model_field (drop at bs) ≡ false → after_extents 0 es at (drop at bs) ≡ some (broken_record at)
-  unfolding after_extents bands_broken
+  pub pair_off : sound_here model_field (drop at bs) ≡ false → bands_broken 0 es at (drop at bs) ≡ some (broken_record at)
+  unfolding bands_broken
   pair_off e = rw e refl
 
-  pub pair_next : (w n : ℕ) → Shape es w n → (m : Model) → m ≡ contents model_field (drop at bs) → sound_here model_field (drop at bs) ≡ true
-      → after_extents 0 es at (drop at bs) ≡ after_bands m w n (at + field_size model_length) (drop (at + field_size model_length) bs)
-  unfolding after_extents bands_broken bands_here bands_size
-  pair_next w n s m is e = rw (e, s.width_is, s.count_is, is, drop-drop (field_size model_length) at bs) refl
+  pub pair_on : sound_here model_field (drop at bs) ≡ true → bands_broken 0 es at (drop at bs) ≡ none
+  unfolding bands_broken
+  pair_on e = rw e refl
 
   -- three pairs and the cuts
   abbrev ceiling : Float
@@ -169,25 +179,21 @@ module _ (es : List ℕ) (at : ℕ) (bs : List ℕ) where
       → cuts_broken 2 es at (drop at bs) ≡ none
   cuts_sound m is e f = cuts_are ∙ rw (e, sym is, f) refl
 
-  -- behind them
-  pub bands_fit : none ≡ bands_broken 2 es at (drop at bs) → at + bands_size 2 ≤ length bs
-  unfolding bands_size
-  bands_fit e = let r = (bands_part {B = Kept} 2 es).room at (drop at bs) (sym e) in omega (arith, length-drop at bs)
+  -- behind them, however many there are
+  module _ (n : ℕ) where
+    pub bands_fit : none ≡ bands_broken n es at (drop at bs) → at + bands_size n ≤ length bs
+    bands_fit e = let r = (bands_part {B = Kept} n es).room at (drop at bs) (sym e) in omega (arith, length-drop at bs, bands_some n)
 
-  pub bands_off : (r : Refusal) → some r ≡ bands_broken 2 es at (drop at bs) → some r ≡ after_extents 2 es at (drop at bs)
-  unfolding after_extents
-  bands_off r e = rw (sym e) refl
+    pub bands_off : (r : Refusal) → some r ≡ bands_broken n es at (drop at bs) → some r ≡ after_extents n es at (drop at bs)
+    unfolding after_extents
+    bands_off r e = rw (sym e) refl
 
-  ceiling_is : (contents model_field (drop at bs)).ceiling ≡ (bands_here 2 es (drop at bs)).ceiling
-  unfolding bands_here
-  ceiling_is = refl
-
-  pub bands_next : (w n : ℕ) → Shape es w n → (m : Model) → m ≡ contents model_field (drop at bs) → none ≡ bands_broken 2 es at (drop at bs)
-      → after_bands m w n (at + bands_size 2) (drop (at + bands_size 2) bs) ≡ after_extents 2 es at (drop at bs)
-  unfolding after_extents
-  bands_next w n s m is e =
-      by_ceiling m (bands_here 2 es (drop at bs)) (ap (λ (x : Model). x.ceiling) is ∙ ceiling_is) w n (at + bands_size 2) (drop (at + bands_size 2) bs)
-      ∙ rw (sym e, s.width_is, s.count_is, drop-drop (bands_size 2) at bs) refl
+    pub bands_next : (w k : ℕ) → Shape es w k → (m : Model) → m ≡ contents model_field (drop at bs) → none ≡ bands_broken n es at (drop at bs)
+        → after_bands m w k (at + bands_size n) (drop (at + bands_size n) bs) ≡ after_extents n es at (drop at bs)
+    unfolding after_extents
+    bands_next w k s m is e =
+        by_ceiling m (bands_here n es (drop at bs)) (ap (λ (x : Model). x.ceiling) is ∙ ceiling_is n es (drop at bs)) w k (at + bands_size n) (drop (at + bands_size n) bs)
+        ∙ rw (sym e, s.width_is, s.count_is, drop-drop (bands_size n) at bs) refl
 
 -- ---- the edition and the extents
 module _ (axes : ℕ) (bytes : List ℕ) where
@@ -198,6 +204,8 @@ module _ (axes : ℕ) (bytes : List ℕ) where
       → refusal_in (edition_of axes bytes) ≡ some (broken_record (field_size byte_length))
   extents_off e f = edition_refusal axes bytes ∙ rw (e, f) refl
 
-  pub extents_held : (es : List ℕ) → es ≡ extents_here axes bytes → sound_here edition_field bytes ≡ true → sound_here (extents_field axes) (drop (field_size byte_length) bytes) ≡ true
-      → refusal_in (edition_of axes bytes) ≡ after_extents (cuts_for axes) es (bands_at axes) (drop (bands_at axes) bytes)
-  extents_held es is e f = edition_refusal axes bytes ∙ rw (e, f, is) refl
+  -- behind the extents, where the code finds that they end
+  pub extents_held : (start : ℕ) → start ≡ field_size (extents_length axes) → (es : List ℕ) → es ≡ extents_here axes bytes
+      → sound_here edition_field bytes ≡ true → sound_here (extents_field axes) (drop (field_size byte_length) bytes) ≡ true
+      → refusal_in (edition_of axes bytes) ≡ after_extents (cuts_for axes) es (field_size byte_length + start) (drop (field_size byte_length + start) bytes)
+  extents_held start there es is e f = edition_refusal axes bytes ∙ rw (e, f, is, there) refl

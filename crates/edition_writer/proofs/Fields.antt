@@ -1,6 +1,5 @@
--- A record's bytes field by field, and writing by the rows' width and number. Over any number of axes; two and three
--- show how their bands are laid. Assumes nothing.
-use Prim.Native.Nat.{ℕ, ◌+◌, ◌*◌, ◌≤◌}
+-- A record's bytes field by field, and writing by the rows' width and number. Over any number of axes. Assumes nothing.
+use Prim.Native.Nat.{ℕ, suc, ◌+◌, ◌*◌, ◌≤◌}
 use mathlib.Core.Bool.{Bool, true, false, cond}
 use mathlib.Core.List.{List, [], ◌∷◌, ◌++◌, append_assoc, append-nil}
 use mathlib.Core.Path.{◌≡◌, refl, sym, ap, ◌∙◌}
@@ -14,20 +13,17 @@ use borrow.Author.Tests.{leb-true}
 use Rattle.rules.specs.RefusalNumbers.{Refusal, Answer, given, refused, and_then, no_room}
 use Rattle.rules.specs.RefusalNumbers.Entries.{Outcome}
 use Rattle.rules.specs.RefusalNumbers.Editions.{store_answer}
-use Rattle.rules.specs.TheGridAndItsBounds.{Model, Head, Grid, plain_model}
+use Rattle.rules.specs.TheGridAndItsBounds.{Band, Model, Head, Grid, plain_model}
 use Rattle.rules.specs.Fields.{little_endian, short_size, word_size, head_size, field_size, field}
 use Rattle.rules.specs.MapRecord.{extents_tag, extents_length, extent_bytes, model_tag, model_length, model_bytes, frame_tag, frame_length, end_tag, end_length}
 use Rattle.rules.specs.MapRecord.{row_width, row_count}
-use Rattle.rules.specs.EditionTwo.{byte_length, edition_tag, edition_two, cuts_tag, cuts_length, cuts_for, open_tag, open_byte, pairs_bytes, cuts_of, bands_bytes}
+use Rattle.rules.specs.EditionTwo.{byte_length, edition_tag, edition_two, cuts_tag, cuts_length, cuts_for, open_tag, open_byte, pairs_bytes, cuts_of, cuts_bytes, bands_bytes}
 use Rattle.rules.specs.EditionTwo.{grid_bytes, edition_bytes, bands_size, grid_offset, row_size, edition_size, grid_tried, edition_room, edition_writable}
 use Rattle.types.specs.Models as Models
 use Rattle.types.specs.declared.points.Extents3.{Extents3}
 use Rattle.types.specs.declared.model.Model as Plain
 use Rattle.types.specs.declared.model.Pair.{Pair}
 use Rattle.types.specs.declared.model.Bands.{Bands}
-use Rattle.grid_map.specs.Heads.{head2, head3}
-use Rattle.grid_map.specs.declared.map2.GridMap2.{GridMap2}
-use Rattle.grid_map.specs.declared.map3.GridMap3.{GridMap3}
 use Rattle.marks.specs.Marking.{grid_of}
 use Rattle.record_writer.specs.Writing.{model_written, frame_written}
 use Rattle.record_writer.proofs.Fields.{length_extents}
@@ -73,6 +69,37 @@ length_shorts : (xs : List ℕ) → length (extent_bytes xs) ≡ short_size * le
 length_shorts xs = let a = length-field extents_tag (extent_bytes xs) in let b = length_extents xs in omega arith
 
 -- ---- the bands
+-- so many pairs, and the cuts between them
+length_pairs : (ceiling : Float) (bs : List Band) → length (pairs_bytes ceiling bs) ≡ length bs * field_size model_length
+unfolding pairs_bytes
+length_pairs ceiling [] = refl
+length_pairs ceiling (b ∷ bs) =
+    let pair : List ℕ = model_written (plain_model b.pair ceiling) in
+    length-append pair (pairs_bytes ceiling bs) ∙ (let x = length-model (plain_model b.pair ceiling) in let y = length_pairs ceiling bs in omega arith)
+
+cuts_each : (bs : List Band) → length (cuts_of bs) ≡ length bs
+unfolding cuts_of
+cuts_each [] = refl
+cuts_each (b ∷ bs) = ap suc (cuts_each bs)
+
+pub length-bands : (m : Model) → length (bands_bytes m) ≡ bands_size (length m.above)
+unfolding bands_bytes pairs_bytes bands_size
+length-bands m = go m.above
+  where
+    go : (bs : List Band) → length (model_written m ++ pairs_bytes m.ceiling bs ++ cuts_bytes bs) ≡ bands_size (length bs)
+    go [] = simp append-nil (length-model m)
+    go (b ∷ bs) =
+        let pairs : List ℕ = pairs_bytes m.ceiling (b ∷ bs) in
+        let cuts : List ℕ = cuts_bytes (b ∷ bs) in
+        let x = length-model m in
+        let y = length_pairs m.ceiling (b ∷ bs) in
+        let z = length-field cuts_tag (extent_bytes (cuts_of (b ∷ bs))) in
+        let z' = length_shorts (cuts_of (b ∷ bs)) in
+        let z'' = cuts_each (b ∷ bs) in
+        let one = length-append (model_written m) pairs in
+        let two = length-append (model_written m ++ pairs) cuts in
+        omega arith
+
 -- three pairs and the cuts
 module _ (e : Extents3) (b : Bands) where
   abbrev plain : Pair → Model
@@ -95,13 +122,6 @@ module _ (e : Extents3) (b : Bands) where
   length_three =
       length-append (pair b.low ++ pair b.middle) (pair b.high) ∙ (let x = length_two in let y = length-model (plain b.high) in omega arith)
 
-  length-bands : length (bands_bytes (Models.bands_of e b)) ≡ 3 * field_size model_length + field_size (cuts_length 2)
-  length-bands =
-      let x = length_three in
-      let y = length-field cuts_tag (extent_bytes (Models.cuts_of b.cuts)) in
-      let z = length_shorts (Models.cuts_of b.cuts) in
-      ap length bands_are ∙ length-append (pair b.low ++ pair b.middle ++ pair b.high) cuts ∙ omega arith
-
   -- a pair's store, by the model that it was made of
   pair-stored : (p : Pair) (m : Model) (at : ℕ) (out out₁ : List ℕ) → m ≡ plain p → out₁ ≡ sets out at (model_written m) → out₁ ≡ sets out at (pair p)
   pair-stored p m at out out₁ is stored = stored ∙ ap (λ (k : Model). sets out at (model_written k)) is
@@ -123,26 +143,18 @@ module _ (e : Extents3) (b : Bands) where
       then_run all cuts out out₃ out₄ at (at + 3 * field_size model_length) two s (omega arith) ∙ ap (sets out at) (sym bands_are)
 
 -- one pair and no cuts
-plain-bands : (m : Plain.Model) → bands_bytes (Models.model_of m) ≡ model_written (Models.model_of m)
+pub pair_alone : (m : Plain.Model) → bands_bytes (Models.model_of m) ≡ model_written (Models.model_of m)
 unfolding bands_bytes pairs_bytes
-plain-bands m = simp append-nil
-
-pub plain_written : (at : ℕ) (m : Plain.Model) (out out₁ : List ℕ) → out₁ ≡ sets out at (model_written (Models.model_of m))
-    → out₁ ≡ sets out at (bands_bytes (Models.model_of m))
-plain_written at m out out₁ e = e ∙ ap (sets out at) (sym (plain-bands m))
+pair_alone m = simp append-nil
 
 -- bands of so many bytes, as many as the axes ask for
 pub record Laid (h : Head) (bands : ℕ) : Type 0 where
   pub long : length (bands_bytes h.model) ≡ bands
   pub sized : bands_size (cuts_for (length h.extents)) ≡ bands
 
-pub laid2 : (map : GridMap2) → Laid (head2 map) (field_size model_length)
-unfolding bands_size cuts_for
-laid2 map = record { long = ap length (plain-bands map.model) ∙ length-model (head2 map).model; sized = refl }
-
-pub laid3 : (map : GridMap3) → Laid (head3 map) (3 * field_size model_length + field_size (cuts_length 2))
-unfolding bands_size cuts_for
-laid3 map = record { long = length-bands map.extents map.bands; sized = refl }
+pub laid_of : (h : Head) (axes bands : ℕ) → length h.extents ≡ axes → length h.model.above ≡ cuts_for axes → bands ≡ bands_size (cuts_for axes) → Laid h bands
+laid_of h axes bands each above size =
+    record { long = length-bands h.model ∙ ap bands_size above ∙ sym size; sized = ap (λ (k : ℕ). bands_size (cuts_for k)) each ∙ sym size }
 
 -- ---- the fields after the bands'
 length-frame : (frame : ℕ) → length (frame_written frame) ≡ field_size frame_length
@@ -209,10 +221,10 @@ module _ (running : Bool) (m : Model) (frame w n offset : ℕ) (g : Grid) (room 
   given_room = size_and_room.1
 
 -- a head whose bands have so many bytes, and a model of its ceiling, by which its rows are tried
-module _ (h : Head) (running : Bool) (m : Model) (same : h.model.ceiling ≡ m.ceiling) (odds : List Float) (stamps out : List ℕ) (w n bands : ℕ)
-    (shape : Shape h.extents w n) (laid : Laid h bands) where
+module _ (h : Head) (running : Bool) (m : Model) (same : h.model.ceiling ≡ m.ceiling) (odds : List Float) (stamps out : List ℕ) (w n start bands : ℕ)
+    (shape : Shape h.extents w n) (there_is : start ≡ field_size (extents_length (length h.extents))) (laid : Laid h bands) where
   abbrev bands_at : ℕ
-  bands_at = field_size byte_length + field_size (extents_length (length h.extents))
+  bands_at = field_size byte_length + start
 
   abbrev rows_at : ℕ
   rows_at = bands_at + bands + field_size frame_length + field_size byte_length
@@ -222,14 +234,14 @@ module _ (h : Head) (running : Bool) (m : Model) (same : h.model.ceiling ≡ m.c
 
   writable_is : edition_writable h running g (length out) ≡ writable_grid running m h.frame w n rows_at g (length out)
   unfolding edition_writable writable_grid edition_room edition_size grid_offset
-  writable_is = rw (shape.width_is, shape.count_is, laid.sized, grid_by_ceiling running h.model m same h.frame w n rows_at g) refl
+  writable_is = rw (shape.width_is, shape.count_is, sym there_is, laid.sized, grid_by_ceiling running h.model m same h.frame w n rows_at g) refl
 
-  pub not_written : (r : Refusal) → writable_grid running m h.frame w n rows_at g (length out) ≡ refused r
+  pub not_written : (r : Refusal) → refused r ≡ writable_grid running m h.frame w n rows_at g (length out)
       → ◌≡◌ {A = Outcome ℕ (List ℕ)} (record { answer = refused r; lent = out }) (store_answer h running g out (edition_writable h running g (length out)))
-  not_written r e = rw (writable_is, e) refl
+  not_written r e = rw (writable_is, sym e) refl
 
   pub written : (size : ℕ) (out₁ out₂ out₃ out₄ : List ℕ) → n * w ≤ length odds → enough_stamps running (n * w) (length stamps)
-      → writable_grid running m h.frame w n rows_at g (length out) ≡ given size
+      → given size ≡ writable_grid running m h.frame w n rows_at g (length out)
       → out₁ ≡ sets out 0 (field edition_tag (edition_two ∷ []))
       → out₂ ≡ sets out₁ (field_size byte_length) (field extents_tag (extent_bytes h.extents))
       → out₃ ≡ sets out₂ bands_at (bands_bytes h.model)
@@ -240,13 +252,13 @@ module _ (h : Head) (running : Bool) (m : Model) (same : h.model.ceiling ≡ m.c
       let extents : List ℕ = field extents_tag (extent_bytes h.extents) in
       let rest : List ℕ = rest_bytes running h.frame w n g in
       let size₁ = length-field edition_tag (edition_two ∷ []) in
-      let size₂ = length_extents h.extents in
+      let size₂ = length_extents h.extents ∙ sym there_is in
       let size₂' = length-append edition extents in
       let size₃ = laid.long in
       let size₃' = length-append (edition ++ extents) (bands_bytes h.model) in
       let size₄ = length_rest running h.frame w n odds stamps there marked in
       let size₄' = length-append (front h) rest in
-      let fits = size_and_room running m h.frame w n rows_at g (length out) size e in
+      let fits = size_and_room running m h.frame w n rows_at g (length out) size (sym e) in
       let sized = fits.0 in
       let room = fits.1 in
       let one = then_run edition extents out out₁ out₂ 0 (field_size byte_length) a b (omega arith) in
@@ -256,4 +268,4 @@ module _ (h : Head) (running : Bool) (m : Model) (same : h.model.ceiling ≡ m.c
       let k : 0 + length (front h ++ rest) ≡ size = omega arith in
       let stands : out₄ ≡ edition_bytes h running g ++ drop size out =
       all ∙ sets-eq (front h ++ rest) out 0 (omega arith) ∙ ap (λ (j : ℕ). [] ++ (front h ++ rest) ++ drop j out) k ∙ ap (λ (bs : List ℕ). bs ++ drop size out) (sym is) in
-      rw (writable_is, e, stands) refl
+      rw (writable_is, sym e, stands) refl

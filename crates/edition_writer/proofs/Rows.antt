@@ -7,7 +7,7 @@ use mathlib.Core.Option.{none}
 use mathlib.Core.Path.{◌≡◌, refl, ap, ap₂, ◌∙◌}
 use native.Mathlib.Nat.{mul-add, mul_comm, mul_left_comm, le-mul_of_pos_right}
 use native.Mathlib.Omega.{arith}
-use lib.Dec.{T, ltb, ltb→lt}
+use lib.Dec.{T, eqb, ltb, ltb→lt}
 use lib.Ieee.{Float}
 use lib.Ieee.Fits.{and_l, and_r}
 use lib.ListN.{length, take, drop}
@@ -17,7 +17,7 @@ use Rattle.rules.specs.RefusalNumbers.Editions.{uses_of_writing}
 use Rattle.rules.specs.TheGridAndItsBounds.{Model, Head, Grid, cells, most_cells, cuts_in_bounds, cuts_below, last_extent, rising}
 use Rattle.rules.specs.Fields.{float_bytes, head_size, word_size, field_size, field, sound_or, rows_of, rows_tried}
 use Rattle.rules.specs.MapRecord.{row_tag, row_length, odds_in_bounds, rows_bytes, rows_checked}
-use Rattle.rules.specs.EditionTwo.{stamps_length, none_above, row_size, behind_row, grid_bytes, grid_tried}
+use Rattle.rules.specs.EditionTwo.{bands_size, cuts_for, stamps_length, none_above, row_size, behind_row, grid_bytes, grid_tried}
 use Rattle.laws.specs.Checks.{InBounds, passed}
 use Rattle.types.specs.Models.{bands_of}
 use Rattle.types.specs.Points.{extents3}
@@ -124,3 +124,12 @@ countable running es w n s b p =
         let c = mul_comm n w in
         let d = le-mul_of_pos_right n p in
         omega arith
+
+-- where the rows stand too
+pub bands_few : (axes : ℕ) → bands_size (cuts_for axes) ≤ 88
+unfolding bands_size cuts_for
+bands_few axes = go (eqb axes 3)
+  where
+    go : (three : Bool) → bands_size (cond three 2 0) ≤ 88
+    go true = omega arith
+    go false = omega arith

@@ -4,7 +4,8 @@ ghost use Rattle.std.specs.Prelude.{◌≡◌, [], ◌∷◌, ◌+◌, ◌≤◌
 ghost use Rattle.std.proofs.lemmas.List.Edits.{sets};
 ghost use Rattle.rules.specs.Fields.{field, field_size};
 ghost use Rattle.rules.specs.MapRecord.{extent_bytes};
-ghost use Rattle.rules.specs.EditionTwo.{byte_length, edition_tag, edition_two, cuts_tag, cuts_length, open_tag, open_byte};
+ghost use Rattle.rules.specs.EditionTwo.{byte_length, edition_tag, edition_two, open_tag, open_byte};
+ghost use Rattle.rules.specs.EditionTwo.{cuts_tag, cuts_length};
 ghost use Rattle.types.specs.Models.{cuts_of};
 
 use fields::{
@@ -14,7 +15,7 @@ use fields::{
 use types::Cuts;
 
 pub fn put_edition(out: &mut [u8], at: usize)
-    requires { at + field_size byte_length ≤ length out.old }
+    requires room { at + field_size byte_length ≤ length out.old }
     ensures { out.new ≡ sets out.old at (field edition_tag (edition_two ∷ [])) }
 {
     put_field(out, at, EDITION_TAG, BYTE_LENGTH);
@@ -23,7 +24,7 @@ pub fn put_edition(out: &mut [u8], at: usize)
 
 // Whether the sweep is open.
 pub fn put_mark(out: &mut [u8], at: usize, running: bool)
-    requires { at + field_size byte_length ≤ length out.old }
+    requires room { at + field_size byte_length ≤ length out.old }
     ensures { out.new ≡ sets out.old at (field open_tag (open_byte running ∷ [])) }
 {
     put_field(out, at, OPEN_TAG, BYTE_LENGTH);
@@ -32,9 +33,9 @@ pub fn put_mark(out: &mut [u8], at: usize, running: bool)
 
 // The cuts have passed, so two bytes hold each.
 pub fn put_cuts(out: &mut [u8], at: usize, cuts: Cuts)
-    requires fact_1 { at + field_size (cuts_length 2) ≤ length out.old }
-    requires fact_2 { cuts.first < 65_536 }
-    requires fact_3 { cuts.second < 65_536 }
+    requires room { at + field_size (cuts_length 2) ≤ length out.old }
+    requires first_short { cuts.first < 65_536 }
+    requires second_short { cuts.second < 65_536 }
     ensures { out.new ≡ sets out.old at (field cuts_tag (extent_bytes (cuts_of cuts))) }
 {
     let first = at + HEAD_SIZE;

@@ -7,8 +7,8 @@ use lib.ListN.{length, drop}
 use Rattle.rules.specs.RefusalNumbers.Editions.{has_edition_one}
 use Rattle.rules.specs.Fields.{field_size}
 use Rattle.rules.specs.MapRecord.{equal_pairs}
-use Rattle.rules.specs.EditionTwo.{Kept, kept, byte_length, cuts_for, edition_size}
-use Rattle.edition_reader.specs.Editions.{bands_here, mark_at, extents_here, head_here, running_here}
+use Rattle.rules.specs.EditionTwo.{Kept, kept, byte_length, edition_size}
+use Rattle.edition_reader.specs.Editions.{mark_at, extents_here, head_here, running_here}
 use Rattle.edition_reader.proofs.Grids.{held}
 
 abbrev pub kept_at : ℕ → List ℕ → Kept
@@ -24,8 +24,3 @@ module _ (axes : ℕ) (bytes : List ℕ) where
 
   pub closed_size : running_here axes bytes ≡ false → length bytes ≡ edition_size (extents_here axes bytes) (running_here axes bytes) → length bytes ≡ edition_size (extents_here axes bytes) false
   closed_size r e = e ∙ ap (edition_size (extents_here axes bytes)) r
-
--- on two axes there is one pair
-pub one-pair : (bytes : List ℕ) → equal_pairs (head_here 2 bytes).model.lowest (head_here 2 bytes).model.above ≡ true
-unfolding cuts_for bands_here equal_pairs
-one-pair bytes = refl

@@ -1,6 +1,6 @@
 -- What a move answers, by whether the record fits the other edition and the room. Over any number of axes. Assumes
 -- nothing.
-use Prim.Native.Nat.{ℕ, ◌+◌, ◌-◌, ◌≤◌, ◌<◌}
+use Prim.Native.Nat.{ℕ, ◌+◌, ◌*◌, ◌≤◌, ◌<◌}
 use mathlib.Core.Bool.{true, false}
 use mathlib.Core.List.{List, [], ◌++◌}
 use mathlib.Core.Path.{◌≡◌, refl, ap, ◌∙◌}
@@ -22,23 +22,24 @@ use Rattle.editions.proofs.Runs.{length_run}
 written_first : (bs out : List ℕ) (size : ℕ) → length bs ≡ size → size ≤ length out → sets out 0 bs ≡ bs ++ drop size out
 written_first bs out size e l = sets-eq bs out 0 (omega arith) ∙ ap (λ (j : ℕ). [] ++ bs ++ drop j out) (let k : 0 + length bs ≡ size = omega arith in k)
 
--- the bytes that a move up copies
-pub length_up : (at : ℕ) (bytes middle : List ℕ) → at + field_size frame_length ≤ length bytes
-    → length ((edition ++ take at bytes) ++ middle ++ (take (field_size frame_length) (drop at bytes) ++ closed_mark ++ drop (at + field_size frame_length) bytes)) ≡ length bytes + 8 + length middle
+-- the bytes that a move up copies, and those of the bands
+pub length_up : (size place : ℕ) (bytes bands : List ℕ) → size ≤ length bytes → place + field_size frame_length ≤ length bytes
+    → length ((edition ++ take size bytes) ++ bands ++ (take (field_size frame_length) (drop place bytes) ++ closed_mark ++ drop (place + field_size frame_length) bytes)) + place
+    ≡ size + length bytes + 2 * field_size byte_length + length bands
 unfolding field little_endian
-length_up at bytes middle h =
-    let frame : List ℕ = take (field_size frame_length) (drop at bytes) in
-    let rows : List ℕ = drop (at + field_size frame_length) bytes in
-    let a = length-append ((edition ++ take at bytes) ++ middle) (frame ++ closed_mark ++ rows) in
-    let b = length-append (edition ++ take at bytes) middle in
-    let c = length-append edition (take at bytes) in
-    let d = length-take-le at bytes (omega arith) in
+length_up size place bytes bands h l =
+    let frame : List ℕ = take (field_size frame_length) (drop place bytes) in
+    let rows : List ℕ = drop (place + field_size frame_length) bytes in
+    let a = length-append ((edition ++ take size bytes) ++ bands) (frame ++ closed_mark ++ rows) in
+    let b = length-append (edition ++ take size bytes) bands in
+    let c = length-append edition (take size bytes) in
+    let d = length-take-le size bytes h in
     let e = length-append (frame ++ closed_mark) rows in
     let f = length-append frame closed_mark in
-    let g = length_run (field_size frame_length) at bytes h in
-    let i = length-drop (at + field_size frame_length) bytes in
-    let j : length edition ≡ 4 = refl in
-    let k : length closed_mark ≡ 4 = refl in
+    let g = length_run (field_size frame_length) place bytes l in
+    let i = length-drop (place + field_size frame_length) bytes in
+    let j : length edition ≡ field_size byte_length = refl in
+    let k : length closed_mark ≡ field_size byte_length = refl in
     omega arith
 
 -- the bytes that a move back copies

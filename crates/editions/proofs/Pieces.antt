@@ -1,7 +1,7 @@
 -- The bytes of a record as the pieces that the moves copy: in both editions the extents and the first pair stand
--- together, then, behind what edition 2 has between, the frame, and behind the mark the rows and the end. Over any
--- number of axes. Assumes nothing.
-use Prim.Native.Nat.{ℕ, ◌+◌, ◌-◌}
+-- together, then, behind what edition 2 has between, the frame, and behind the mark the rows and the end. On the way up
+-- the pairs are written anew. Over any number of axes. Assumes nothing.
+use Prim.Native.Nat.{ℕ, ◌+◌, ◌-◌, ◌*◌, ◌<◌}
 use mathlib.Core.Bool.{Bool, false}
 use mathlib.Core.List.{List, [], ◌∷◌, ◌++◌, append_assoc}
 use mathlib.Core.Path.{◌≡◌, refl, sym, ap, ap₂, ◌∙◌}
@@ -11,11 +11,13 @@ use lib.ListN.{length, length-append, take, drop}
 use lib.Seq.{take_at, drop_at}
 use Rattle.rules.specs.RefusalNumbers.{given}
 use Rattle.rules.specs.RefusalNumbers.Editions.{unstamped}
-use Rattle.rules.specs.TheGridAndItsBounds.{Model, Head, Grid}
+use Rattle.rules.specs.TheGridAndItsBounds.{Model, Head, Grid, cells}
 use Rattle.rules.specs.Fields.{little_endian, word_size, float_bytes, field_size, field}
 use Rattle.rules.specs.MapRecord.{Stored, extents_tag, extents_length, extent_bytes, model_tag, model_length, model_bytes, frame_tag, frame_length, end_tag}
 use Rattle.rules.specs.MapRecord.{row_length, row_width, row_count, rows_bytes, record_bytes, record_of, rows_offset, record_size}
 use Rattle.rules.specs.EditionTwo.{Kept, byte_length, edition_tag, edition_two, open_tag, cuts_for, pairs_bytes, cuts_bytes, bands_bytes, bands_size, row_size, grid_offset, edition_size, edition_bytes, edition_of}
+use Rattle.laws.specs.Checks.{InBounds}
+use Rattle.rows.proofs.Shapes.{width_some}
 use Rattle.record_laws.specs.Words.{AreBytes}
 use Rattle.record_laws.specs.Read.{read_again}
 use Rattle.record_laws.specs.EditionTwo.Read.{edition_again}
@@ -72,12 +74,14 @@ record_is : (h : Head) (odds : List Float) → record_bytes h odds ≡ extents_o
 unfolding record_bytes
 record_is h odds = append_assoc (extents_of h ++ pair_of h ++ frame_of h) (rows_bytes (row_width h.extents) (row_count h.extents) odds) (field end_tag [])
 
--- a closed record of edition 2, with what stands between the first pair and the frame
+-- a closed record of edition 2, and with what stands between the first pair and the frame
+edition_by_bands : (h : Head) (g : Grid) → edition_bytes h false g ≡ edition ++ extents_of h ++ bands_bytes h.model ++ frame_of h ++ closed_mark ++ rows_of h g.odds
+unfolding edition_bytes
+edition_by_bands h g = rw (closed_bytes (row_width h.extents) (row_count h.extents) g.odds g.stamps) (simp append_assoc refl)
+
 edition_is : (h : Head) (g : Grid) (middle : List ℕ) → bands_bytes h.model ≡ pair_of h ++ middle
     → edition_bytes h false g ≡ edition ++ (extents_of h ++ pair_of h) ++ middle ++ frame_of h ++ closed_mark ++ rows_of h g.odds
-unfolding edition_bytes
-edition_is h g middle e =
-    rw (e, closed_bytes (row_width h.extents) (row_count h.extents) g.odds g.stamps) (simp append_assoc refl)
+edition_is h g middle e = edition_by_bands h g ∙ rw e (simp append_assoc refl)
 
 -- ---- an edition 1 record that was read
 module _ (axes : ℕ) (bytes : List ℕ) (s : Stored) (e : record_of axes bytes ≡ given s) (b : AreBytes bytes) (count : length s.head.extents ≡ axes) where
@@ -87,15 +91,10 @@ module _ (axes : ℕ) (bytes : List ℕ) (s : Stored) (e : record_of axes bytes 
   whole : bytes ≡ extents_of h ++ pair_of h ++ frame_of h ++ rows_of h s.odds
   whole = sym (read_again axes bytes s e b) ∙ record_is h s.odds
 
-  pub start_is : take (frame_in axes) bytes ≡ extents_of h ++ pair_of h
-  start_is =
-      ap (take (frame_in axes)) (whole ∙ append_assoc (extents_of h ++ pair_of h) (frame_of h) (rows_of h s.odds))
-      ∙ take_at (extents_of h ++ pair_of h) (frame_of h ++ rows_of h s.odds) (frame_in axes) (length-start h axes count)
-
-  pub pair_is : take (field_size model_length) (drop (field_size (extents_length axes)) bytes) ≡ pair_of h
-  pair_is =
-      part_of (extents_of h) (pair_of h) (frame_of h ++ rows_of h s.odds) bytes (field_size (extents_length axes)) (field_size model_length)
-      (whole ∙ append_assoc (extents_of h ++ pair_of h) (frame_of h) (rows_of h s.odds)) (length-first h axes count) (length-pair h)
+  pub first_is : take (field_size (extents_length axes)) bytes ≡ extents_of h
+  first_is =
+      ap (take (field_size (extents_length axes))) (whole ∙ simp append_assoc refl)
+      ∙ take_at (extents_of h) (pair_of h ++ frame_of h ++ rows_of h s.odds) (field_size (extents_length axes)) (length-first h axes count)
 
   pub frame_is : take (field_size frame_length) (drop (frame_in axes) bytes) ≡ frame_of h
   frame_is = part_of (extents_of h ++ pair_of h) (frame_of h) (rows_of h s.odds) bytes (frame_in axes) (field_size frame_length) whole (length-start h axes count) (length-frame h)
@@ -106,12 +105,11 @@ module _ (axes : ℕ) (bytes : List ℕ) (s : Stored) (e : record_of axes bytes 
       (length-append (extents_of h ++ pair_of h) (frame_of h) ∙ ap₂ ◌+◌ (length-start h axes count) (length-frame h))
 
   -- its bytes in edition 2, as they are copied; the head there may have cuts
-  pub moved_up : (k : Head) (middle : List ℕ) → k.extents ≡ h.extents → k.frame ≡ h.frame → pair_of k ≡ pair_of h → bands_bytes k.model ≡ pair_of k ++ middle
+  pub moved_up : (k : Head) → k.extents ≡ h.extents → k.frame ≡ h.frame
       → edition_bytes k false (unstamped s.odds)
-      ≡ (edition ++ take (frame_in axes) bytes) ++ middle ++ (take (field_size frame_length) (drop (frame_in axes) bytes) ++ closed_mark ++ drop (frame_in axes + field_size frame_length) bytes)
-  moved_up k middle es fs ps bs =
-      edition_is k (unstamped s.odds) middle bs
-      ∙ rw (es, fs, ps, start_is, frame_is, rows_are) (simp append_assoc refl)
+      ≡ (edition ++ take (field_size (extents_length axes)) bytes) ++ bands_bytes k.model
+      ++ (take (field_size frame_length) (drop (frame_in axes) bytes) ++ closed_mark ++ drop (frame_in axes + field_size frame_length) bytes)
+  moved_up k es fs = edition_by_bands k (unstamped s.odds) ∙ rw (es, fs, first_is, frame_is, rows_are) (simp append_assoc refl)
 
 -- ---- a closed record of edition 2 that was read
 module _ (axes : ℕ) (bytes : List ℕ) (k : Kept) (e : edition_of axes bytes ≡ given k) (b : AreBytes bytes) (count : length k.head.extents ≡ axes)
@@ -171,10 +169,15 @@ module _ (axes : ℕ) (bytes : List ℕ) (k : Kept) (e : edition_of axes bytes �
       record_is top k.grid.odds ∙ rw (first, frame, rows) refl
 
 -- ---- sizes
-pub size2 : (es : List ℕ) → length es ≡ 2 → edition_size es false ≡ record_size es + 8
-unfolding edition_size grid_offset record_size rows_offset bands_size cuts_for
-size2 es e = let k : row_size false (row_width es) ≡ field_size (row_length (row_width es)) = omega arith in rw (e, k) (omega arith)
+pub sizes : (es : List ℕ) (axes : ℕ) → length es ≡ axes
+    → edition_size es false + field_size model_length ≡ record_size es + 2 * field_size byte_length + bands_size (cuts_for axes)
+unfolding edition_size grid_offset record_size rows_offset
+sizes es axes e = let k : row_size false (row_width es) ≡ field_size (row_length (row_width es)) = omega arith in rw (e, k) (omega arith)
 
-pub size3 : (es : List ℕ) → length es ≡ 3 → edition_size es false ≡ record_size es + 69
-unfolding edition_size grid_offset record_size rows_offset bands_size cuts_for
-size3 es e = let k : row_size false (row_width es) ≡ field_size (row_length (row_width es)) = omega arith in rw (e, k) (omega arith)
+-- there is an axis
+pub some_axes : (es : List ℕ) (axes : ℕ) → length es ≡ axes → cells es ≡ row_width es * row_count es → InBounds es → 0 < axes
+some_axes es axes each by_rows b = rw (sym each) (go es by_rows b)
+  where
+    go : (es : List ℕ) → cells es ≡ row_width es * row_count es → InBounds es → 0 < length es
+    go [] by_rows b = let wide = width_some [] _ _ (record { width_is = refl; count_is = refl; cells_are = by_rows }) b in absurd (omega arith)
+    go (x ∷ es) by_rows b = omega arith

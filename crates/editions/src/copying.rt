@@ -9,39 +9,32 @@ use edition_writer::{put_edition, put_mark};
 use fields::{BYTE_SIZE, FRAME_SIZE};
 
 // So many bytes of a list, from a place on. They are the list's, and there is room for them.
-pub fn copy_bytes(out: &mut [u8], at: usize, bytes: &[u8], from: usize, count: usize)
-    requires fact_1 { at + count ≤ length out.old }
-    requires fact_2 { from + count ≤ length bytes.now }
+fn copy_bytes(out: &mut [u8], at: usize, bytes: &[u8], from: usize, count: usize)
+    requires room { at + count ≤ length out.old }
+    requires all_there { from + count ≤ length bytes.now }
     ensures { out.new ≡ sets out.old at (take count (drop from bytes.now)) }
 {
-    let mut here = at;
-    let mut place = from;
-    let mut left = count;
-    while left > 0 {
-        out[here] = bytes[place];
-        here += 1;
-        place += 1;
-        left -= 1;
-    }
+    out[at..at + count].copy_from_slice(&bytes[from..from + count]);
 }
 
-// The edition, and an edition 1 record's fields before its frame's, which stands there. There is room for them.
-pub fn put_start(out: &mut [u8], bytes: &[u8], frame: usize)
-    requires fact_1 { field_size byte_length + frame ≤ length out.old }
-    requires fact_2 { frame ≤ length bytes.now }
+// The edition, and an edition 1 record's first fields, so many bytes. There is room for them.
+pub fn put_start(out: &mut [u8], bytes: &[u8], size: usize)
+    requires room { field_size byte_length + size ≤ length out.old }
+    requires all_there { size ≤ length bytes.now }
     ensures { out.new
-        ≡ sets out.old 0 (field edition_tag (edition_two ∷ []) ++ take frame bytes.now) }
+        ≡ sets out.old 0 (field edition_tag (edition_two ∷ []) ++ take size bytes.now) }
 {
     put_edition(out, 0);
-    copy_bytes(out, BYTE_SIZE, bytes, 0, frame);
+    copy_bytes(out, BYTE_SIZE, bytes, 0, size);
 }
 
 // An edition 1 record's fields from its frame's on, with the mark of a closed sweep after it. There is room for them.
 pub fn put_rest(out: &mut [u8], at: usize, bytes: &[u8], frame: usize)
-    requires fact_1 { at + (length bytes.now - frame) + field_size byte_length ≤ length out.old }
-    requires fact_2 { frame + field_size frame_length ≤ length bytes.now }
+    requires room { at + (length bytes.now - frame) + field_size byte_length ≤ length out.old }
+    requires all_there { frame + field_size frame_length ≤ length bytes.now }
     ensures { out.new
-        ≡ sets out.old at (take (field_size frame_length) (drop frame bytes.now) ++ field open_tag (0 ∷ []) ++ drop (frame + field_size frame_length) bytes.now) }
+        ≡ sets out.old at (take (field_size frame_length) (drop frame bytes.now) ++ field open_tag (0 ∷ [])
+        ++ drop (frame + field_size frame_length) bytes.now) }
 {
     let mark = at + FRAME_SIZE;
     let rows = frame + FRAME_SIZE;
@@ -53,11 +46,13 @@ pub fn put_rest(out: &mut [u8], at: usize, bytes: &[u8], frame: usize)
 // The fields that edition 1 has too of a closed record of edition 2: those from the extents' on, so many bytes; the
 // frame's, which stands there; and those behind the mark's. There is room for them.
 pub fn put_back(out: &mut [u8], bytes: &[u8], size: usize, frame: usize)
-    requires fact_1 { field_size byte_length + size ≤ frame }
-    requires fact_2 { frame + field_size frame_length + field_size byte_length ≤ length bytes.now }
-    requires fact_3 { size + (length bytes.now - frame) ≤ length out.old + field_size byte_length }
+    requires before { field_size byte_length + size ≤ frame }
+    requires all_there { frame + field_size frame_length + field_size byte_length ≤ length bytes.now }
+    requires room { size + (length bytes.now - frame) ≤ length out.old + field_size byte_length }
     ensures { out.new
-        ≡ sets out.old 0 (take size (drop (field_size byte_length) bytes.now) ++ take (field_size frame_length) (drop frame bytes.now) ++ drop (frame + field_size frame_length + field_size byte_length) bytes.now) }
+        ≡ sets out.old 0 (take size (drop (field_size byte_length) bytes.now)
+        ++ take (field_size frame_length) (drop frame bytes.now)
+        ++ drop (frame + field_size frame_length + field_size byte_length) bytes.now) }
 {
     let rows = frame + FRAME_SIZE + BYTE_SIZE;
     copy_bytes(out, 0, bytes, BYTE_SIZE, size);

@@ -1,13 +1,14 @@
 -- Little-endian numbers by halves, and a field's head by its tests. Assumes nothing.
 use Prim.Native.Nat.{ℕ, zero, suc, ◌+◌, ◌-◌, ◌*◌, ◌^◌, ◌/◌, ◌%◌, ◌≤◌, ◌<◌}
 use mathlib.Core.Bool.{Bool, true, false, ◌&&◌}
-use mathlib.Core.List.{List, [], ◌∷◌, ◌++◌}
+use mathlib.Core.List.{List, [], ◌∷◌}
 use mathlib.Core.Path.{◌≡◌, refl, sym, ap, ◌∙◌}
-use native.Mathlib.Nat.{mul_assoc, pow-zero, pow-succ', mod-lt, mod-add-div}
+use native.Mathlib.Nat.{pow-succ', mul_comm, div-one, div-div-eq-div-mul}
 use native.Mathlib.Omega.{arith}
 use lib.Dec.{eqb}
-use lib.ListN.{length, get_or, drop, length-drop}
+use lib.ListN.{length, get_or, take, drop, length-drop}
 use lib.Seq.{drop-drop, get_or-drop}
+use Rattle.std.specs.Int.{byte_at, bytes_low_first, from_le_bytes, w16, w32, w64}
 use borrow.Author.Tests.{leb-true, le-leb, lt-leb, eq-eqb, ne_eqb}
 use Rattle.rules.specs.Fields.{little_endian, from_little_endian, field_here}
 
@@ -25,55 +26,66 @@ from_step k (suc at) [] = rw (from-none k) refl
 from_step k zero (b ∷ bs) = refl
 from_step k (suc at) (b ∷ bs) = from_step k at bs
 
-pub from_two : (at : ℕ) (bs : List ℕ) → from_little_endian 2 (drop at bs) ≡ get_or bs at 0 + 256 * get_or bs (at + 1) 0
-unfolding from_little_endian
-from_two at bs =
-    let e : at + 1 ≡ suc at = omega arith in
-    rw e (omega (arith, from_step 1 at bs, from_step 0 (suc at) bs))
+-- the byte at a place after the first, and the rest
+from_next : (k at i : ℕ) (bs : List ℕ) → from_little_endian (suc k) (drop (at + i) bs) ≡ get_or bs (at + i) 0 + 256 * from_little_endian k (drop (at + (i + 1)) bs)
+from_next k at i bs = let e : at + (i + 1) ≡ suc (at + i) = omega arith in rw e (from_step k (at + i) bs)
 
--- a number of so many bytes, and of so many more after them
-pub from_split : (j k at : ℕ) (bs : List ℕ) → from_little_endian (j + k) (drop at bs) ≡ from_little_endian j (drop at bs) + 256 ^ j * from_little_endian k (drop (at + j) bs)
+from_first : (k at : ℕ) (bs : List ℕ) → from_little_endian (suc k) (drop at bs) ≡ get_or bs at 0 + 256 * from_little_endian k (drop (at + 1) bs)
+from_first k at bs = let e : at + 1 ≡ suc at = omega arith in rw e (from_step k at bs)
+
+from_end : (bs : List ℕ) → from_little_endian 0 bs ≡ 0
 unfolding from_little_endian
-from_split zero k at bs =
-    let a : zero + k ≡ k = omega arith in
-    let b : at + zero ≡ at = omega arith in
-    rw (a, b, pow-zero 256) (omega arith)
-from_split (suc j) k at bs =
-    let a : suc j + k ≡ suc (j + k) = omega arith in
-    let b : at + suc j ≡ suc at + j = omega arith in
-    let rest = from_little_endian k (drop (suc at + j) bs) in
-    rw (a, b, pow-succ' 256 j, mul_assoc 256 (256 ^ j) rest) (omega (arith, from_step (j + k) at bs, from_step j at bs, from_split j k (suc at) bs))
+from_end bs = refl
+
+module _ (n at : ℕ) (bs : List ℕ) where
+  -- a number of std's bytes from a place on
+  pub from_2 : n ≡ from_le_bytes w16 (get_or bs at 0 ∷ get_or bs (at + 1) 0 ∷ []) → n ≡ from_little_endian 2 (drop at bs)
+  from_2 e = omega (arith, e, from_first 1 at bs, from_next 0 at 1 bs, from_end (drop (at + 2) bs))
+
+  pub from_4 : n ≡ from_le_bytes w32 (get_or bs at 0 ∷ get_or bs (at + 1) 0 ∷ get_or bs (at + 2) 0 ∷ get_or bs (at + 3) 0 ∷ []) → n ≡ from_little_endian 4 (drop at bs)
+  from_4 e = omega (arith, e, from_first 3 at bs, from_next 2 at 1 bs, from_next 1 at 2 bs, from_next 0 at 3 bs, from_end (drop (at + 4) bs))
+
+  pub from_8 :
+      n ≡ from_le_bytes w64 (get_or bs at 0 ∷ get_or bs (at + 1) 0 ∷ get_or bs (at + 2) 0 ∷ get_or bs (at + 3) 0
+      ∷ get_or bs (at + 4) 0 ∷ get_or bs (at + 5) 0 ∷ get_or bs (at + 6) 0 ∷ get_or bs (at + 7) 0 ∷ [])
+      → n ≡ from_little_endian 8 (drop at bs)
+  from_8 e =
+      let a = from_first 7 at bs in
+      let b = from_next 6 at 1 bs in
+      let c = from_next 5 at 2 bs in
+      let d = from_next 4 at 3 bs in
+      omega (arith, e, from_next 3 at 4 bs, from_next 2 at 5 bs, from_next 1 at 6 bs, from_next 0 at 7 bs, from_end (drop (at + 8) bs))
+
+-- the bytes of a number are enough to read it
+from_take : (k : ℕ) (bs : List ℕ) → from_little_endian k (take k bs) ≡ from_little_endian k bs
+unfolding from_little_endian
+from_take zero bs = refl
+from_take (suc k) [] = refl
+from_take (suc k) (b ∷ bs) = ap (λ (n : ℕ). b + 256 * n) (from_take k bs)
+
+pub from_part : (k at : ℕ) (bs : List ℕ) → from_little_endian k (take (at + k - at) (drop at bs)) ≡ from_little_endian k (drop at bs)
+from_part k at bs = let e : at + k - at ≡ k = omega arith in rw e (from_take k (drop at bs))
 
 -- ---- writing
+byte_is : (i n : ℕ) → byte_at i n ≡ n / 256 ^ i % 256
+byte_is zero n = ap (λ (m : ℕ). m % 256) (sym (div-one n))
+byte_is (suc i) n = refl
+
+bytes-from : (i k n : ℕ) → bytes_low_first i k n ≡ little_endian k (n / 256 ^ i)
+unfolding little_endian
+bytes-from i zero n = refl
+bytes-from i (suc k) n =
+    let e : n / 256 ^ i / 256 ≡ n / 256 ^ suc i = div-div-eq-div-mul n (256 ^ i) 256 ∙ ap (λ (m : ℕ). n / m) (mul_comm (256 ^ i) 256 ∙ sym (pow-succ' 256 i)) in
+    rw (e, byte_is i n) (ap (λ (bs : List ℕ). n / 256 ^ i % 256 ∷ bs) (bytes-from (suc i) k n))
+
+-- std's bytes of a number
+pub little_is : (k n : ℕ) → bytes_low_first 0 k n ≡ little_endian k n
+little_is k n = bytes-from 0 k n ∙ ap (little_endian k) (div-one n)
+
 pub length_little : (k n : ℕ) → length (little_endian k n) ≡ k
 unfolding little_endian
 length_little zero n = refl
 length_little (suc k) n = ap suc (length_little k (n / 256))
-
-pub little_two : (n : ℕ) → n < 65_536 → little_endian 2 n ≡ n % 256 ∷ n / 256 ∷ []
-unfolding little_endian
-little_two n h = let e : n / 256 % 256 ≡ n / 256 = omega arith in rw e refl
-
--- so many bytes of the low part, and so many more of the high one
-little_parts : (j k low high : ℕ) → low < 256 ^ j → little_endian (j + k) (low + 256 ^ j * high) ≡ little_endian j low ++ little_endian k high
-unfolding little_endian
-little_parts zero k low high h =
-    let a : zero + k ≡ k = omega arith in
-    let none : low < 1 = rw (pow-zero 256) at h in
-    let b : low + 1 * high ≡ high = omega arith in
-    rw (a, pow-zero 256, b) refl
-little_parts (suc j) k low high h =
-    let a : suc j + k ≡ suc (j + k) = omega arith in
-    let small : low < 256 * 256 ^ j = rw (pow-succ' 256 j) at h in
-    let first : (low + 256 * (256 ^ j * high)) % 256 ≡ low % 256 = omega arith in
-    let rest : (low + 256 * (256 ^ j * high)) / 256 ≡ low / 256 + 256 ^ j * high = omega arith in
-    rw (a, pow-succ' 256 j, mul_assoc 256 (256 ^ j) high, first, rest) (ap (λ (bs : List ℕ). low % 256 ∷ bs) (little_parts j k (low / 256) high (omega arith)))
-
--- the low part is what is left of the number by so many bytes
-pub little_split : (j k n : ℕ) → 0 < 256 ^ j → little_endian (j + k) n ≡ little_endian j (n % 256 ^ j) ++ little_endian k (n / 256 ^ j)
-little_split j k n p =
-    ap (little_endian (j + k)) (sym (mod-add-div n (256 ^ j)))
-    ∙ little_parts j k (n % 256 ^ j) (n / 256 ^ j) (mod-lt n p)
 
 -- ---- a field's head
 module _ (tag size at : ℕ) (bs : List ℕ) where

@@ -1,10 +1,11 @@
 -- A run of stores after another is one run. Assumes nothing.
-use Prim.Native.Nat.{ℕ, suc, ◌+◌}
-use mathlib.Core.List.{List, [], ◌∷◌, ◌++◌}
+use Prim.Native.Nat.{ℕ, suc, ◌+◌, ◌-◌, ◌≤◌}
+use mathlib.Core.List.{List, [], ◌∷◌, ◌++◌, append_assoc}
 use mathlib.Core.Path.{◌≡◌, refl, sym, ap, ◌∙◌}
 use native.Mathlib.Omega.{arith}
-use lib.ListN.{length, set}
-use lib.Seq.{sets}
+use borrow.Rule.Slice.PartMut.{put_mid}
+use lib.ListN.{length, set, take, drop}
+use lib.Seq.{sets, sets-eq, drop-drop}
 
 module _ {A : Type 0} where
   pub sets_append : (xs ys l : List A) (i : ℕ) → sets l i (xs ++ ys) ≡ sets (sets l i xs) (i + length xs) ys
@@ -29,3 +30,9 @@ module _ {A : Type 0} where
   -- the same, where the second starts at a place known by another name
   pub then_run : (xs ys l l₁ l₂ : List A) (i j : ℕ) → l₁ ≡ sets l i xs → l₂ ≡ sets l₁ j ys → j ≡ i + length xs → l₂ ≡ sets l i (xs ++ ys)
   then_run xs ys l l₁ l₂ i j first second e = two_runs xs ys l l₁ l₂ i (length xs) refl first (second ∙ ap (λ (k : ℕ). sets l₁ k ys) e)
+
+  -- a list after a write to a part of it
+  pub put_part : (xs l : List A) (i n : ℕ) → length xs ≡ n → i + n ≤ length l → put_mid i (i + n - i) l xs ≡ sets l i xs
+  put_part xs l i n size room =
+      let k : i + n - i ≡ length xs = omega arith in
+      rw (k, drop-drop (length xs) i l) (sym (sets-eq xs l i (omega arith) ∙ append_assoc (take i l) xs (drop (i + length xs) l)))

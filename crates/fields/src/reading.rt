@@ -8,20 +8,12 @@ ghost use Rattle.rules.specs.Fields.{from_little_endian, field_here};
 use crate::layout::{HEAD_SIZE, TAG_SIZE};
 use crate::patterns::float_of;
 
-fn wide(byte: u8) -> u16
-    ensures { result ≡ byte }
-{
-    byte as u16
-}
-
 // The two bytes are there.
 pub fn u16_at(bytes: &[u8], at: usize) -> u16
     requires { at + 2 ≤ length bytes.now }
     ensures { result ≡ from_little_endian 2 (drop at bytes.now) }
 {
-    let low = wide(bytes[at]);
-    let high = wide(bytes[at + 1]);
-    low + 256 * high
+    u16::from_le_bytes([bytes[at], bytes[at + 1]])
 }
 
 // The four bytes are there.
@@ -29,9 +21,7 @@ pub fn u32_at(bytes: &[u8], at: usize) -> u32
     requires { at + 4 ≤ length bytes.now }
     ensures { result ≡ from_little_endian 4 (drop at bytes.now) }
 {
-    let low = u16_at(bytes, at);
-    let high = u16_at(bytes, at + 2);
-    (low as u32) + 65_536 * (high as u32)
+    u32::from_le_bytes([bytes[at], bytes[at + 1], bytes[at + 2], bytes[at + 3]])
 }
 
 // The eight bytes are there.
@@ -39,9 +29,8 @@ pub fn u64_at(bytes: &[u8], at: usize) -> u64
     requires { at + 8 ≤ length bytes.now }
     ensures { result ≡ from_little_endian 8 (drop at bytes.now) }
 {
-    let low = u32_at(bytes, at);
-    let high = u32_at(bytes, at + 4);
-    (low as u64) + 4_294_967_296 * (high as u64)
+    let b = &bytes[at..at + 8];
+    u64::from_le_bytes([b[0], b[1], b[2], b[3], b[4], b[5], b[6], b[7]])
 }
 
 // The eight bytes are there.

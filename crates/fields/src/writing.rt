@@ -1,6 +1,6 @@
 // Numbers, floats and the heads of fields, written at a place in lent bytes: those bytes change and no other. Whoever
 // writes has seen that there is room (refusal 11).
-ghost use Rattle.std.specs.Prelude.{◌≡◌, ◌∷◌, ◌+◌, ◌*◌, ◌≤◌, ◌<◌, length, take, drop};
+ghost use Rattle.std.specs.Prelude.{◌≡◌, ◌∷◌, ◌+◌, ◌*◌, ◌≤◌, ◌<◌, length};
 ghost use Rattle.std.specs.Float.{binary64};
 ghost use Rattle.std.specs.Float.Ieee.{to_bits};
 ghost use Rattle.std.proofs.lemmas.List.Edits.{sets};
@@ -15,8 +15,7 @@ pub fn put_u16(out: &mut [u8], at: usize, n: u16)
     requires { at + 2 ≤ length out.old }
     ensures { out.new ≡ sets out.old at (little_endian 2 n) }
 {
-    out[at] = (n % 256) as u8;
-    out[at + 1] = (n / 256) as u8;
+    out[at..at + 2].copy_from_slice(&n.to_le_bytes());
 }
 
 // There is room for the four bytes.
@@ -24,8 +23,7 @@ pub fn put_u32(out: &mut [u8], at: usize, n: u32)
     requires { at + 4 ≤ length out.old }
     ensures { out.new ≡ sets out.old at (little_endian 4 n) }
 {
-    put_u16(out, at, (n % 65_536) as u16);
-    put_u16(out, at + 2, (n / 65_536) as u16);
+    out[at..at + 4].copy_from_slice(&n.to_le_bytes());
 }
 
 // There is room for the eight bytes.
@@ -33,8 +31,7 @@ fn put_u64(out: &mut [u8], at: usize, n: u64)
     requires { at + 8 ≤ length out.old }
     ensures { out.new ≡ sets out.old at (little_endian 8 n) }
 {
-    put_u32(out, at, (n % 4_294_967_296) as u32);
-    put_u32(out, at + 4, (n / 4_294_967_296) as u32);
+    out[at..at + 8].copy_from_slice(&n.to_le_bytes());
 }
 
 // There is room for the eight bytes.
@@ -45,46 +42,34 @@ pub fn put_f64(out: &mut [u8], at: usize, x: f64)
     put_u64(out, at, bits_of(x));
 }
 
-// Floats of a list, from a place on. They are the list's, and there is room for them.
-pub fn put_floats(out: &mut [u8], at: usize, numbers: &[f64], from: usize, width: usize)
-    requires fact_1 { at + float_size * width ≤ length out.old }
-    requires fact_2 { from + width ≤ length numbers.now }
-    ensures { out.new
-        ≡ sets out.old at (float_bytes (take width (drop from numbers.now))) }
+// Floats, one after another. There is room for them.
+pub fn put_floats(out: &mut [u8], at: usize, numbers: &[f64])
+    requires room { at + float_size * length numbers.now ≤ length out.old }
+    ensures { out.new ≡ sets out.old at (float_bytes numbers.now) }
 {
     let mut here = at;
-    let mut place = from;
-    let mut left = width;
-    while left > 0 {
-        put_f64(out, here, numbers[place]);
+    for x in numbers {
+        put_f64(out, here, *x);
         here += FLOAT_SIZE;
-        place += 1;
-        left -= 1;
     }
 }
 
-// Numbers of 32 bits of a list, from a place on. They are the list's, and there is room for them.
-pub fn put_words(out: &mut [u8], at: usize, numbers: &[u32], from: usize, width: usize)
-    requires fact_1 { at + word_size * width ≤ length out.old }
-    requires fact_2 { from + width ≤ length numbers.now }
-    ensures { out.new
-        ≡ sets out.old at (stamp_bytes (take width (drop from numbers.now))) }
+// Numbers of 32 bits, one after another. There is room for them.
+pub fn put_words(out: &mut [u8], at: usize, numbers: &[u32])
+    requires room { at + word_size * length numbers.now ≤ length out.old }
+    ensures { out.new ≡ sets out.old at (stamp_bytes numbers.now) }
 {
     let mut here = at;
-    let mut place = from;
-    let mut left = width;
-    while left > 0 {
-        put_u32(out, here, numbers[place]);
+    for n in numbers {
+        put_u32(out, here, *n);
         here += WORD_SIZE;
-        place += 1;
-        left -= 1;
     }
 }
 
 // The tag and the length of a field; its bytes come after them. There is room for both, and two bytes hold the length.
 pub fn put_field(out: &mut [u8], at: usize, tag: u8, size: usize)
-    requires fact_1 { at + head_size ≤ length out.old }
-    requires fact_2 { size < 65_536 }
+    requires room { at + head_size ≤ length out.old }
+    requires short { size < 65_536 }
     ensures { out.new ≡ sets out.old at (tag ∷ little_endian short_size size) }
 {
     out[at] = tag;

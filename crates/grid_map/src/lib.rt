@@ -1,8 +1,8 @@
 // The map's head, and the entries that need no beam. The original's GridMap.
 #![tactic(auto)]
 
-mod map2;
-mod map3;
+mod loaded;
+mod map;
 
-pub use map2::{GridMap2, LoadAnswer2, MapAnswer2};
-pub use map3::{GridMap3, LoadAnswer3, MapAnswer3};
+pub use loaded::Loaded;
+pub use map::{Grid, GridMap, GridMap2, GridMap3};

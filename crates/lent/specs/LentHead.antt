@@ -1,14 +1,11 @@
 -- A head lent by reference: what opening a sweep answers, and the head and the stamps as they stand afterwards.
 -- Definitions only.
-use Rattle.std.specs.Prelude.{ℕ, List}
+use Rattle.std.specs.Prelude.{ℕ, List, Result}
 use Rattle.rules.specs.RefusalNumbers.{Answer, given, refused}
 use Rattle.rules.specs.RefusalNumbers.Entries.{Outcome}
 use Rattle.rules.specs.TheGridAndItsBounds.{Head}
 use Rattle.types.specs.Answers.{set_answer}
-use Rattle.types.specs.declared.answers.SetAnswer.{SetAnswer}
-use Rattle.grid_map.specs.declared.map2.GridMap2.{GridMap2}
-use Rattle.grid_map.specs.declared.map3.GridMap3.{GridMap3}
-use Rattle.grid_map.specs.Heads.{head2, head3}
+use Rattle.types.specs.declared.refusal.Refusal.{Refusal}
 
 pub record Opened : Type 0 where
   pub answer : Answer (Unit {0})
@@ -31,9 +28,6 @@ left_in was out = record { answer = done out.answer; head = head_after was out.a
 abbrev pub in_place : Opened → Outcome (Unit {0}) (Head × List ℕ)
 in_place o = record { answer = o.answer; lent = (o.head, o.stamps) }
 
--- an answer with the head and the stamps as they stand afterwards
-abbrev pub opened2 : SetAnswer → GridMap2 → List ℕ → Opened
-opened2 r map stamps = record { answer = set_answer r; head = head2 map; stamps = stamps }
-
-abbrev pub opened3 : SetAnswer → GridMap3 → List ℕ → Opened
-opened3 r map stamps = record { answer = set_answer r; head = head3 map; stamps = stamps }
+-- an answer with the head, by what it stands for, and the stamps as they stand afterwards
+abbrev pub opened_as : {M : Type 0} → (M → Head) → Result (Unit {0}) Refusal → M → List ℕ → Opened
+opened_as head r map stamps = record { answer = set_answer r; head = head map; stamps = stamps }

@@ -1,7 +1,6 @@
 -- The band of a place, by the layers below its cuts; and that those are few enough to be counted. Of the rules' models
 -- alone, so of every format. Assumes nothing.
 use Prim.Native.Nat.{ℕ, ◌*◌, ◌/◌, ◌≤◌, ◌<◌}
-use mathlib.Core.Bool.{Bool, true, false}
 use mathlib.Core.List.{List, [], ◌∷◌}
 use mathlib.Core.Path.{◌≡◌, refl, ap, ◌∙◌}
 use native.Mathlib.Nat.{mul-one, mul-le-mul, le_trans, le_of_lt}

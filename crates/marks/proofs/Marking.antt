@@ -5,7 +5,7 @@ use mathlib.Core.Bool.{Bool, true, false}
 use mathlib.Core.List.{List}
 use mathlib.Core.Path.{◌≡◌, sym, ap, ◌∙◌}
 use lib.Ieee.{Float, nan, Format, neg, sub, lt, le}
-use lib.ListN.{get_or, set}
+use lib.ListN.{set}
 use lib.Seq.{set-get_or}
 use borrow.Author.Tests.{eq-eqb, ne_eqb}
 use Rattle.rules.specs.MarksAndFrames.{Steps, Cell, Marked, unmarked, cell_at, stamp_of, clamp, limited, steps_at, set_odds, freed, occupied_step, occupy, mark_free, mark_occupied, mark_cell}

@@ -19,21 +19,13 @@ pub fn opened(frame: Frame) -> Frame
 pub fn clear_stamps(stamps: &mut [u32])
     ensures { stamps.new ≡ replicate (length stamps.old) 0 }
 {
-    let mut i = 0;
-    while i < stamps.len() {
-        stamps[i] = 0;
-        i += 1;
-    }
+    stamps.fill(0);
 }
 
 pub fn clear_odds(odds: &mut [f64])
     ensures { odds.new ≡ replicate (length odds.old) zero_f }
 {
-    let mut i = 0;
-    while i < odds.len() {
-        odds[i] = 0.0;
-        i += 1;
-    }
+    odds.fill(0.0);
 }
 
 // Where frames start again, a stale stamp would pass for one of the new sweep, so all are cleared.

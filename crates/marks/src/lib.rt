@@ -7,7 +7,7 @@ mod cells;
 mod frames;
 mod marks;
 
-pub use bands::model_at;
+pub use bands::{Stepped, model_at};
 pub use cells::{read_at, set_checked_at, set_log_odds_at};
 pub use frames::{clear_odds, clear_stamps, open_stamps, opened};
 pub use marks::{Steps, mark_free_at, mark_occupied_at, steps_of};

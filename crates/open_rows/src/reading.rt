@@ -8,10 +8,9 @@ ghost use Rattle.types.specs.Models.{model_of};
 ghost use Rattle.open_rows.specs.OpenRows.{open_refusal, open_odds, open_stamps};
 
 use crate::stamps::{read_stamps, stamps_sound};
-use checks::Check;
 use fields::{FLOAT_SIZE, HEAD_SIZE, WORD_SIZE};
 use rows::{read_row, record_broken, row_sound};
-use types::{Frame, Model};
+use types::{Frame, Model, Refusal};
 
 // So many rows, or 10 with the offset of the first field that is not sound. The extents have passed, so a row is short.
 pub fn open_rows_check(
@@ -21,26 +20,22 @@ pub fn open_rows_check(
     count: usize,
     model: Model,
     frame: Frame,
-) -> Check
-    requires { width ≤ most_extent }
+) -> Result<(), Refusal>
+    requires short { width ≤ most_extent }
     ensures { check_of result ≡ open_refusal (model_of model) frame.0 width count at (drop at bytes.now) }
 {
     let mut here = at;
-    let mut left = count;
-    while left > 0 {
-        if row_sound(bytes, here, width, model) {
-            let stamps = here + (HEAD_SIZE + FLOAT_SIZE * width);
-            if stamps_sound(bytes, stamps, width, frame) {
-                here = stamps + (HEAD_SIZE + WORD_SIZE * width);
-                left -= 1;
-            } else {
-                return record_broken(stamps);
-            }
-        } else {
-            return record_broken(here);
+    for _ in 0..count {
+        if !row_sound(bytes, here, width, model) {
+            return Err(record_broken(here));
         }
+        let stamps = here + (HEAD_SIZE + FLOAT_SIZE * width);
+        if !stamps_sound(bytes, stamps, width, frame) {
+            return Err(record_broken(stamps));
+        }
+        here = stamps + (HEAD_SIZE + WORD_SIZE * width);
     }
-    Check::Passed
+    Ok(())
 }
 
 // All rows into the lent lists. The rows' fields stand whole, and the lists have the room.
@@ -52,21 +47,19 @@ pub fn read_open_rows(
     odds: &mut [f64],
     stamps: &mut [u32],
 )
-    requires fact_1 { at + count * row_size true width ≤ length bytes.now }
-    requires fact_2 { count * width ≤ length odds.old }
-    requires fact_3 { count * width ≤ length stamps.old }
-    ensures fact_1 { odds.new ≡ sets odds.old 0 (open_odds width count (drop at bytes.now)) }
-    ensures fact_2 { stamps.new ≡ sets stamps.old 0 (open_stamps width count (drop at bytes.now)) }
+    requires whole { at + count * row_size true width ≤ length bytes.now }
+    requires odds_room { count * width ≤ length odds.old }
+    requires stamps_room { count * width ≤ length stamps.old }
+    ensures odds { odds.new ≡ sets odds.old 0 (open_odds width count (drop at bytes.now)) }
+    ensures stamps { stamps.new ≡ sets stamps.old 0 (open_stamps width count (drop at bytes.now)) }
 {
     let mut here = at;
     let mut place: usize = 0;
-    let mut left = count;
-    while left > 0 {
-        read_row(bytes, here + HEAD_SIZE, width, odds, place);
+    for _ in 0..count {
+        read_row(bytes, here + HEAD_SIZE, &mut odds[place..place + width]);
         here += HEAD_SIZE + FLOAT_SIZE * width;
-        read_stamps(bytes, here + HEAD_SIZE, width, stamps, place);
+        read_stamps(bytes, here + HEAD_SIZE, &mut stamps[place..place + width]);
         here += HEAD_SIZE + WORD_SIZE * width;
         place += width;
-        left -= 1;
     }
 }

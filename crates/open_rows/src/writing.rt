@@ -10,10 +10,9 @@ ghost use Rattle.marks.specs.Marking.{grid_of};
 ghost use Rattle.rows.specs.Rows.{refusal_in};
 
 use crate::stamps::{stamps_not_above, write_stamps};
-use checks::Check;
 use fields::{FLOAT_SIZE, HEAD_SIZE, WORD_SIZE};
 use rows::{odds_in_bounds, record_broken, write_row};
-use types::{Frame, Model};
+use types::{Frame, Model, Refusal};
 
 // All rows, or 10 with the offset of the first whose odds are not within the bounds, or that has a stamp above the
 // frame. The rows are the lists', and their bytes can be counted.
@@ -25,31 +24,27 @@ pub fn open_rows_writable(
     model: Model,
     frame: Frame,
     at: usize,
-) -> Check
-    requires fact_1 { count * width ≤ length odds.now }
-    requires fact_2 { count * width ≤ length stamps.now }
-    requires fact_3 { at + count * row_size true width < 2 ^ 64 }
+) -> Result<(), Refusal>
+    requires all_odds { count * width ≤ length odds.now }
+    requires all_stamps { count * width ≤ length stamps.now }
+    requires countable { at + count * row_size true width < 2 ^ 64 }
     ensures { check_of result
         ≡ refusal_in (grid_tried true (model_of model) frame.0 width count at (grid_of odds.now stamps.now)) }
 {
     let mut here = at;
     let mut place: usize = 0;
-    let mut left = count;
-    while left > 0 {
-        if odds_in_bounds(odds, place, width, model) {
-            here += HEAD_SIZE + FLOAT_SIZE * width;
-            if stamps_not_above(stamps, place, width, frame) {
-                here += HEAD_SIZE + WORD_SIZE * width;
-                place += width;
-                left -= 1;
-            } else {
-                return record_broken(here);
-            }
-        } else {
-            return record_broken(here);
+    for _ in 0..count {
+        if !odds_in_bounds(&odds[place..place + width], model) {
+            return Err(record_broken(here));
         }
+        here += HEAD_SIZE + FLOAT_SIZE * width;
+        if !stamps_not_above(&stamps[place..place + width], frame) {
+            return Err(record_broken(here));
+        }
+        here += HEAD_SIZE + WORD_SIZE * width;
+        place += width;
     }
-    Check::Passed
+    Ok(())
 }
 
 // All rows. They are the lists' and short, and there is room for them.
@@ -61,22 +56,20 @@ pub fn write_open_rows(
     width: usize,
     count: usize,
 )
-    requires fact_1 { at + count * row_size true width ≤ length out.old }
-    requires fact_2 { count * width ≤ length odds.now }
-    requires fact_3 { count * width ≤ length stamps.now }
-    requires fact_4 { width ≤ most_extent }
+    requires room { at + count * row_size true width ≤ length out.old }
+    requires all_odds { count * width ≤ length odds.now }
+    requires all_stamps { count * width ≤ length stamps.now }
+    requires short { width ≤ most_extent }
     ensures { out.new
         ≡ sets out.old at (grid_bytes true width count (grid_of odds.now stamps.now)) }
 {
     let mut here = at;
     let mut place: usize = 0;
-    let mut left = count;
-    while left > 0 {
-        write_row(out, here, odds, place, width);
+    for _ in 0..count {
+        write_row(out, here, &odds[place..place + width]);
         here += HEAD_SIZE + FLOAT_SIZE * width;
-        write_stamps(out, here, stamps, place, width);
+        write_stamps(out, here, &stamps[place..place + width]);
         here += HEAD_SIZE + WORD_SIZE * width;
         place += width;
-        left -= 1;
     }
 }

@@ -1,12 +1,11 @@
--- The cell that contains a point, over any number of axes, in every format: one axis by the code's tests, and the axes
--- one after the other by what the code's calls answered. Assumes nothing.
-use Rattle.std.proofs.Common.{◌≡◌, ℕ, suc, ◌+◌, ◌*◌, ◌≤◌, Bool, true, false, cond, not, List, [], ◌∷◌, ℤ, sym, refl, ap, ◌∙◌, subst}
+-- The cell that contains a point, in every format, and the place of a cell, over any number of axes: one axis by the
+-- code's tests, and the axes one after the other by what the code's calls answered. Assumes nothing.
+use Rattle.std.proofs.Common.{◌≡◌, ℕ, suc, Bool, true, false, cond, not, List, [], ◌∷◌, ℤ, sym, refl, ap, ◌∙◌}
 use lib.Ieee.{Float, Format, lt, le}
 use lib.Ieee.Scale.{finite}
 use Rattle.rules.specs.Floats.{zero_f, number_f}
 use Rattle.rules.specs.RefusalNumbers.{Answer, given, refused, Refusal, out_of_bounds, non_finite_coordinate}
-use Rattle.rules.specs.Coordinates.{within, truncated, with_bit, outside_axes, axis_containing, containing_from, cell_containing}
-use Rattle.places.proofs.Sets.{coordinate_most}
+use Rattle.rules.specs.Coordinates.{within, truncated, with_bit, outside_axes, axis_containing, containing_from, cell_containing, along, or_off, off_axes, on_grid_from, flat_index}
 
 -- ---- one coordinate: z is the code's zero, and limit its extent as a float
 module _ (f : Format) (e : ℕ) (x : Float) {z limit : Float} (zero : z ≡ zero_f) (l : limit ≡ number_f f e) where
@@ -33,10 +32,7 @@ module _ (f : Format) (off k e : ℕ) (x : Float) {a : Bool} (asked : a ≡ fini
     unfolding axis_containing
     has_none g = simp (index, sym asked ∙ h, sym known ∙ g)
 
--- ---- the set of the axes that a refusal reports: r is the code's set from this axis on
-pub few_axes : (f : Format) (e : ℕ) (x : Float) (others : ℕ) {r : ℕ} → r ≡ cond (finite x) (with_bit (not (within f e x)) others) 0 → r ≤ 1 + 2 * others
-few_axes f e x others h = subst (λ (n : ℕ). n ≤ 1 + 2 * others) (sym h) (coordinate_most (finite x) (not (within f e x)) others)
-
+-- ---- the set of the axes that a refusal reports
 module _ (f : Format) (e : ℕ) (x : Float) (others : ℕ) {a : Bool} (asked : a ≡ finite x) where
   pub with_its_bit : {b : Bool} {r : ℕ} → a ≡ true → b ≡ within f e x → r ≡ with_bit (not b) others → r ≡ cond (finite x) (with_bit (not (within f e x)) others) 0
   with_its_bit h p q = simp (q, p, sym asked ∙ h)
@@ -70,3 +66,22 @@ module _ (f : Format) where
   pub from_first : (es : List ℕ) (xs : List Float) {a : Answer (List ℤ)} → a ≡ containing_from f (outside_axes f es xs) 0 es xs → a ≡ cell_containing f es xs
   unfolding cell_containing
   from_first es xs h = h
+
+-- ---- the place of a cell: a is what the code's call on an axis answered, with the set that the code had found, of the
+-- index j that it passed
+module _ (k e : ℕ) {i j : ℤ} {off set : ℕ} {a : Answer ℕ} (found : set ≡ off) (asked : a ≡ or_off set k e j (along e j)) (same : j ≡ i) where
+  pub on_axis : or_off off k e i (along e i) ≡ a
+  on_axis = sym (asked ∙ ap (λ (n : ℕ). or_off n k e j (along e j)) found ∙ ap (λ (z : ℤ). or_off off k e z (along e z)) same)
+
+module _ (off k e : ℕ) (i : ℤ) (es : List ℕ) (is : List ℤ) {r : Refusal} where
+  pub off_here : or_off off k e i (along e i) ≡ refused r → refused r ≡ on_grid_from off k (e ∷ es) (i ∷ is)
+  unfolding on_grid_from
+  off_here h = simp h
+
+  pub off_later : {n : ℕ} → or_off off k e i (along e i) ≡ given n → refused r ≡ on_grid_from off (suc k) es is → refused r ≡ on_grid_from off k (e ∷ es) (i ∷ is)
+  unfolding on_grid_from
+  off_later h q = simp (h, ← q)
+
+pub has_no_place : (es : List ℕ) (is : List ℤ) {r : Refusal} → refused r ≡ on_grid_from (off_axes es is) 0 es is → refused r ≡ flat_index es is
+unfolding flat_index
+has_no_place es is h = simp (← h)

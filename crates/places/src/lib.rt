@@ -5,6 +5,8 @@
 mod containing;
 mod index;
 mod off;
+mod places;
 
-pub use containing::{cell_containing2, cell_containing3, within};
-pub use index::{Place, place_within2, place_within3, translate_to_index2, translate_to_index3};
+pub use containing::within;
+pub use index::{place_within2, place_within3};
+pub use places::Places;

@@ -17,6 +17,11 @@ use Rattle.rules.specs.Fields.{field_size, field_here, contents, sound_here, sou
 use Rattle.rules.specs.MapRecord.{extents_tag, extents_length, extents_field, model_length, model_field, frame_tag, frame_length, frame_field, row_length}
 use Rattle.rules.specs.MapRecord.{end_tag, end_length, end_field, row_width, row_count, rows_offset, end_then, record_of}
 use Rattle.laws.specs.Checks.{InBounds, extents_passed}
+use Rattle.std.specs.Prelude.{Result, Ok, Err}
+use Rattle.std.specs.Result.{is_ok}
+use Rattle.types.specs.declared.refusal.Refusal as Code
+use Rattle.types.specs.Refusals.{refusal_of}
+use Rattle.checks.specs.Checking.{check_of}
 use Rattle.rows.specs.Rows.{refusal_in, unless_sound, rows_refusal}
 use Rattle.rows.proofs.Answers.{sound_first, sound_next, none_first, none_next, field_refusal, field-on}
 use Rattle.rows.proofs.Tried.{rows_room, odds_refusal, odds-on}
@@ -125,11 +130,15 @@ extents_broken es r e = go (all_at_least least_extent es) (fits_capacity es) ref
 
 -- the field by what trying its extents says
 module _ (axes : ℕ) (rest : List ℕ) (here : field_here extents_tag (extents_length axes) rest ≡ true) (es : List ℕ) (is : es ≡ extents_here axes rest) where
-  pub field_sound : none ≡ extents_refusal es → true ≡ sound_here (extents_field axes) rest
+  field_sound : none ≡ extents_refusal es → true ≡ sound_here (extents_field axes) rest
   field_sound e = sym (rw here (ap extents_in_bounds (sym is) ∙ extents_sound es (sym e)))
 
-  pub field_unsound : (r : Refusal) → some r ≡ extents_refusal es → false ≡ sound_here (extents_field axes) rest
+  field_unsound : (r : Refusal) → some r ≡ extents_refusal es → false ≡ sound_here (extents_field axes) rest
   field_unsound r e = sym (rw here (ap extents_in_bounds (sym is) ∙ extents_broken es r (sym e)))
+
+  pub field_tried : (r : Result (Unit {0}) Code.Refusal) → check_of r ≡ extents_refusal es → is_ok r ≡ sound_here (extents_field axes) rest
+  field_tried (Ok t) e = field_sound e
+  field_tried (Err r) e = field_unsound (refusal_of r) e
 
 -- a field that is sound has extents within the bounds
 pub in_bounds : (axes : ℕ) (rest es : List ℕ) → es ≡ extents_here axes rest → sound_here (extents_field axes) rest ≡ true → InBounds es

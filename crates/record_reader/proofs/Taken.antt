@@ -1,9 +1,10 @@
 -- Trying and reading a record by the width and the number of its rows. Over any number of axes. Assumes nothing.
 use Prim.Native.Nat.{ℕ, ◌+◌, ◌*◌, ◌≤◌}
 use mathlib.Core.Bool.{Bool, true, false}
+use mathlib.Core.Logic.{◌⊎◌, inl, inr}
 use mathlib.Core.Option.{some, none}
 use mathlib.Core.List.{List, []}
-use mathlib.Core.Path.{◌≡◌, refl, sym, ap₂, ◌∙◌}
+use mathlib.Core.Path.{◌≡◌, refl, sym, ap, ap₂, ◌∙◌}
 use native.Mathlib.Nat.{mul_comm}
 use native.Mathlib.Omega.{arith}
 use lib.Ieee.{Float}
@@ -12,7 +13,7 @@ use lib.Seq.{sets, drop-drop}
 use borrow.Author.Tests.{eq-eqb, ne_eqb}
 use Rattle.rules.specs.RefusalNumbers.{Refusal, given, refused, bad_cuts, bad_buffer, broken_record}
 use Rattle.rules.specs.RefusalNumbers.Entries.{Outcome, read_record_entry}
-use Rattle.rules.specs.TheGridAndItsBounds.{Model, Head, Grid, one_per_cell, cuts_below, cuts_in_bounds}
+use Rattle.rules.specs.TheGridAndItsBounds.{Model, Head, Grid, one_per_cell, cells, cuts_below, cuts_in_bounds}
 use Rattle.rules.specs.Fields.{field_size, contents, sound_here}
 use Rattle.rules.specs.MapRecord.{extents_length, extents_field, model_length, model_field, frame_length, frame_field, row_length, model_with_cuts, record_of, rows_offset}
 use Rattle.marks.specs.Marking.{grid_of}
@@ -93,44 +94,53 @@ pub cuts_wrong : (axes : ℕ) (bytes : List ℕ) → Sound axes bytes → (cuts 
 unfolding read_record_entry stored_in
 cuts_wrong axes bytes s cuts odds stamps e = rw (s.is, e) refl
 
-module _ (axes : ℕ) (bytes : List ℕ) (s : Sound axes bytes) (width count : ℕ) (shape : Shape (extents_here axes bytes) width count) where
-  pub rows_fit : field_size (extents_length axes) + field_size model_length + field_size frame_length + count * field_size (row_length width) ≤ length bytes
+-- by what the code finds: where the model stands, what it is, and what it is with the cuts on the extents
+module _ (axes : ℕ) (bytes cuts : List ℕ) {start : ℕ} {extents : List ℕ} {m laid : Model}
+    (starts : start ≡ field_size (extents_length axes)) (held : extents ≡ extents_here axes bytes)
+    (stands : m ≡ contents model_field (drop start bytes)) (lies : laid ≡ model_with_cuts extents cuts m) where
+  pub laid_found : laid ≡ model_with_cuts (extents_here axes bytes) cuts (contents model_field (drop (field_size (extents_length axes)) bytes))
+  laid_found =
+      lies ∙ ap₂ (λ (es : List ℕ) (n : Model). model_with_cuts es cuts n) held (stands ∙ ap (λ (i : ℕ). contents model_field (drop i bytes)) starts)
+
+  pub laid_fits : (b : Bool) → b ≡ cuts_in_bounds extents laid → cuts_fit axes cuts bytes ≡ b
+  laid_fits b h = fit_found axes bytes cuts b extents laid held laid_found h
+
+module _ (axes : ℕ) (bytes : List ℕ) (s : Sound axes bytes) where
+  pub rows_fit : (width count : ℕ) → Shape (extents_here axes bytes) width count
+      → field_size (extents_length axes) + field_size model_length + field_size frame_length + count * field_size (row_length width) ≤ length bytes
   unfolding rows_offset
-  rows_fit = let r = rw (shape.width_is, shape.count_is) at s.rows in omega arith
+  rows_fit width count shape = let r = rw (shape.width_is, shape.count_is) at s.rows in omega arith
 
-  -- the cuts that were given, by whether they fit
-  module _ (cuts : List ℕ) (odds : List Float) (stamps : List ℕ) (fit : cuts_fit axes cuts bytes ≡ true) where
-    abbrev wrong : Outcome Head Grid
-    wrong = record { answer = refused bad_buffer; lent = grid_of odds stamps }
-
-    pub odds_wrong : (length odds ≡ width * count → ⊥) → wrong ≡ read_record_entry axes cuts bytes (grid_of odds stamps)
+  -- with cuts that fit, by the number of cells
+  module _ (cuts : List ℕ) (odds : List Float) (stamps : List ℕ) (fit : cuts_fit axes cuts bytes ≡ true) (n : ℕ) (each : n ≡ cells (extents_here axes bytes)) where
+    pub lists_wrong : ((length odds ≡ n → ⊥) ⊎ ((length odds ≡ n) × (length stamps ≡ n → ⊥)))
+        → ◌≡◌ {A = Outcome Head Grid} (record { answer = refused bad_buffer; lent = grid_of odds stamps }) (read_record_entry axes cuts bytes (grid_of odds stamps))
     unfolding read_record_entry stored_in one_per_cell
-    odds_wrong h = rw (s.is, fit, shape.cells_are, ne_eqb (length odds) (width * count) h) refl
+    lists_wrong (inl h) = rw (s.is, fit, sym each, ne_eqb (length odds) n h) refl
+    lists_wrong (inr h) = rw (s.is, fit, sym each, eq-eqb (length odds) n h.0, ne_eqb (length stamps) n h.1) refl
 
-    pub stamps_wrong : length odds ≡ width * count → (length stamps ≡ width * count → ⊥) → wrong ≡ read_record_entry axes cuts bytes (grid_of odds stamps)
-    unfolding read_record_entry stored_in one_per_cell
-    stamps_wrong e h = rw (s.is, fit, shape.cells_are, eq-eqb (length odds) (width * count) e, ne_eqb (length stamps) (width * count) h) refl
-
-    pub all_read : (extents : List ℕ) (model : Model) (frame : ℕ) (odds' : List Float) (stamps' : List ℕ)
-        → length odds ≡ width * count → length stamps ≡ width * count
+    pub all_read : (width count : ℕ) → Shape (extents_here axes bytes) width count
+        → (extents : List ℕ) (model : Model) (frame : ℕ) (odds' : List Float) (stamps' : List ℕ)
+        → length odds ≡ n → length stamps ≡ n
         → extents ≡ extents_here axes bytes
         → model ≡ model_with_cuts (extents_here axes bytes) cuts (contents model_field (drop (field_size (extents_length axes)) bytes))
         → frame ≡ contents frame_field (drop (field_size (extents_length axes) + field_size model_length) bytes)
         → odds' ≡ sets odds 0 (odds_at width count (drop (field_size (extents_length axes) + field_size model_length + field_size frame_length) bytes))
         → stamps' ≡ replicate (length stamps) 0
-        → ◌≡◌ {A = Outcome Head Grid} (record { answer = given (record { extents = extents; model = model; frame = frame }); lent = grid_of odds' stamps' }) (read_record_entry axes cuts bytes (grid_of odds stamps))
+        → ◌≡◌ {A = Outcome Head Grid} (record { answer = given (record { extents = extents; model = model; frame = frame }); lent = grid_of odds' stamps' })
+        (read_record_entry axes cuts bytes (grid_of odds stamps))
     unfolding read_record_entry stored_in one_per_cell
-    all_read extents model frame odds' stamps' one one' e m k o t =
+    all_read width count shape extents model frame odds' stamps' one one' e m k o t =
         let start : ℕ = field_size (extents_length axes) in
         let stored : odds' ≡ odds_at width count (drop (rows_at axes) bytes) =
         o ∙ sets-whole (odds_at width count (drop (rows_at axes) bytes)) odds
-        (length_rows width count (drop (rows_at axes) bytes) ∙ mul_comm count width ∙ sym one) in
+        (length_rows width count (drop (rows_at axes) bytes) ∙ mul_comm count width ∙ sym shape.cells_are ∙ sym each ∙ sym one) in
         rw (
           s.is,
           fit,
-          shape.cells_are,
-          eq-eqb (length odds) (width * count) one,
-          eq-eqb (length stamps) (width * count) one',
+          sym each,
+          eq-eqb (length odds) n one,
+          eq-eqb (length stamps) n one',
           drop-drop (field_size model_length) start bytes,
           drop-drop (field_size frame_length) (start + field_size model_length) bytes,
           shape.width_is,

@@ -1,14 +1,15 @@
-// Reading the map record of the requirements: a map's head and odds from bytes, into lent lists, for two and three
+// Reading the map record of the requirements: a map's head and odds from bytes, into lent lists, for any number of
 // axes.
 #![tactic(auto)]
 
 mod check;
 mod parts;
 mod reading;
+mod reads;
 
-pub use check::{record_check2, record_check3, rows_and_end};
+pub use check::{record_check, rows_and_end};
 pub use parts::{
-    end_check, extents_field_at2, extents_field_at3, extents_sound2, extents_sound3,
-    frame_field_at, frame_sound, model_field_at, model_sound,
+    end_check, extents_sound, frame_field_at, frame_sound, model_field_at, model_sound,
 };
-pub use reading::{alike, read_record2, read_record3};
+pub use reading::read_record;
+pub use reads::Reads;

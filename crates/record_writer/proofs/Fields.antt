@@ -2,6 +2,7 @@
 use Prim.Native.Nat.{ℕ, ◌+◌, ◌*◌, ◌≤◌, ◌<◌}
 use mathlib.Core.Bool.{Bool, true, false, cond}
 use mathlib.Core.List.{List, [], ◌∷◌, ◌++◌, append_assoc}
+use mathlib.Core.Option.{some, none}
 use mathlib.Core.Path.{◌≡◌, refl, sym, ap, ◌∙◌}
 use native.Mathlib.Nat.{mul-add, mul_comm, mul_left_comm, le-mul_of_pos_right}
 use native.Mathlib.Omega.{arith}
@@ -12,7 +13,7 @@ use lib.Seq.{sets, sets-eq}
 use borrow.Author.Tests.{leb-true}
 use Rattle.rules.specs.RefusalNumbers.{Refusal, Answer, given, refused, and_then, broken_record, no_room}
 use Rattle.rules.specs.RefusalNumbers.Entries.{Outcome, write_answer}
-use Rattle.rules.specs.TheGridAndItsBounds.{Pair, Model, Head, plain_model, cells, most_cells}
+use Rattle.rules.specs.TheGridAndItsBounds.{Model, Head, plain_model, cells, most_cells}
 use Rattle.rules.specs.Fields.{little_endian, short_size, word_size, float_size, float_bytes, head_size, field_size, field}
 use Rattle.rules.specs.MapRecord.{extents_tag, extents_length, extent_bytes, model_tag, model_length, frame_tag, frame_length, row_length, end_tag, end_length}
 use Rattle.rules.specs.MapRecord.{row_width, row_count, rows_bytes, rows_checked, rows_offset, record_bytes, record_size, room_for, writable, equal_pairs, pairs_checked}
@@ -22,7 +23,7 @@ use Rattle.fields.proofs.Bytes.{length_little}
 use Rattle.fields.proofs.Stores.{then_run}
 use Rattle.fields.proofs.Floats.{length-field}
 use Rattle.rows.proofs.Written.{length_rows_bytes}
-use Rattle.record_writer.specs.Writing.{size_of, writable_rows, model_written, frame_written, rest_bytes}
+use Rattle.record_writer.specs.Writing.{size_of, one_model, writable_rows, model_written, frame_written, rest_bytes}
 use Rattle.rows.proofs.Shapes.{Shape, few}
 
 -- ---- the fields, from the stores of their parts
@@ -158,55 +159,61 @@ given_room m w n offset odds room size e = go (rows_checked m w n offset odds) (
     go (given t) false p h = let z : ◌≡◌ {A = ℕ} 0 1 = cc in absurd (omega arith)
     go (refused r) b p h = let z : ◌≡◌ {A = ℕ} 0 1 = cc in absurd (omega arith)
 
--- one pair is equal to itself alone
-pub alone : (p : Pair) → equal_pairs p [] ≡ true
-unfolding equal_pairs
-alone p = refl
+-- bands of one pair have the model that is kept; others have none
+kept_of : (b : Bool) (m k : Model) → some m ≡ cond b (some k) none → (m ≡ k) × (b ≡ true)
+kept_of true m k e = (cc, refl)
+kept_of false m k e = let z : ◌≡◌ {A = ℕ} 0 1 = cc in absurd (omega arith)
 
--- a head of equal pairs, and the model that edition 1 keeps of it
-module _ (h : Head) (m : Model) (kept : m ≡ plain_model h.model.lowest h.model.ceiling) (equal : equal_pairs h.model.lowest h.model.above ≡ true)
-    (odds : List Float) (out : List ℕ) (w n : ℕ) (shape : Shape h.extents w n) where
-  abbrev start : ℕ
-  start = field_size (extents_length (length h.extents))
+lost_by : (b : Bool) (k : Model) → none ≡ cond b (some k) none → b ≡ false
+lost_by true k e = let z : ◌≡◌ {A = ℕ} 0 1 = cc in absurd (omega arith)
+lost_by false k e = refl
 
+-- a head, and where the model stands in its record
+module _ (h : Head) (start : ℕ) (there_is : start ≡ field_size (extents_length (length h.extents))) (odds : List Float) (out : List ℕ) where
   abbrev rows_at : ℕ
   rows_at = start + field_size model_length + field_size frame_length
 
-  writable_is : writable h odds (length out) ≡ writable_rows m w n rows_at odds (length out)
-  unfolding writable pairs_checked writable_rows room_for record_size rows_offset
-  writable_is =
-      rw (equal, shape.width_is, shape.count_is, rows_by_ceiling h.model m (sym (ap (λ (k : Model). k.ceiling) kept)) w n rows_at odds) refl
+  -- unequal pairs are refused at the model's field, before anything else
+  pub unequal : none ≡ one_model h.model
+      → ◌≡◌ {A = Outcome ℕ (List ℕ)} (record { answer = refused (broken_record start); lent = out }) (write_answer h odds out (writable h odds (length out)))
+  unfolding one_model writable pairs_checked
+  unequal e = rw (lost_by _ _ e, there_is) refl
 
-  pub not_written : (r : Refusal) → writable_rows m w n rows_at odds (length out) ≡ refused r
-      → ◌≡◌ {A = Outcome ℕ (List ℕ)} (record { answer = refused r; lent = out }) (write_answer h odds out (writable h odds (length out)))
-  not_written r e = rw (writable_is, e) refl
+  -- equal ones, and the model that edition 1 keeps of them
+  module _ (m : Model) (kept : some m ≡ one_model h.model) (w n : ℕ) (shape : Shape h.extents w n) where
+    kept_is : (m ≡ plain_model h.model.lowest h.model.ceiling) × (equal_pairs h.model.lowest h.model.above ≡ true)
+    unfolding one_model
+    kept_is = kept_of _ _ _ kept
 
-  pub written : (size : ℕ) (out₁ out₂ : List ℕ) → n * w ≤ length odds
-      → writable_rows m w n rows_at odds (length out) ≡ given size
-      → out₁ ≡ sets out 0 (field extents_tag (extent_bytes h.extents))
-      → out₂ ≡ sets out₁ start (rest_bytes m h.frame w n odds)
-      → ◌≡◌ {A = Outcome ℕ (List ℕ)} (record { answer = given size; lent = out₂ }) (write_answer h odds out (writable h odds (length out)))
-  written size out₁ out₂ there e a b =
-      let extents : List ℕ = field extents_tag (extent_bytes h.extents) in
-      let rest : List ℕ = rest_bytes m h.frame w n odds in
-      let first : length extents ≡ start = length_extents h.extents in
-      let sized : size ≡ size_of rows_at w n = given_size m w n rows_at odds (length out) size e in
-      let fits = given_room m w n rows_at odds (length out) size e in
-      let long = length_rest m h.frame w n odds there in
-      let both = length-append extents rest in
-      let all : out₂ ≡ sets out 0 (extents ++ rest) = then_run extents rest out out₁ out₂ 0 start a b (omega arith) in
-      let is : record_bytes h odds ≡ extents ++ rest =
-      record_is h odds ∙ rw (shape.width_is, shape.count_is) (ap (λ (k : Model). extents ++ rest_bytes k h.frame w n odds) (sym kept)) in
-      let k : 0 + length (extents ++ rest) ≡ size = omega arith in
-      let stands : out₂ ≡ record_bytes h odds ++ drop size out =
-      all ∙ sets-eq (extents ++ rest) out 0 (omega arith) ∙ ap (λ (j : ℕ). [] ++ (extents ++ rest) ++ drop j out) k ∙ ap (λ (bs : List ℕ). bs ++ drop size out) (sym is) in
-      rw (writable_is, e, stands) refl
+    writable_is : writable h odds (length out) ≡ writable_rows m w n rows_at odds (length out)
+    unfolding writable pairs_checked writable_rows room_for record_size rows_offset
+    writable_is =
+        rw (kept_is.1, shape.width_is, shape.count_is, sym there_is, rows_by_ceiling h.model m (sym (ap (λ (k : Model). k.ceiling) kept_is.0)) w n rows_at odds) refl
 
--- unequal pairs are refused at the model's field, before anything else
-pub unequal : (h : Head) (odds : List Float) (out : List ℕ) → equal_pairs h.model.lowest h.model.above ≡ false
-    → ◌≡◌ {A = Outcome ℕ (List ℕ)} (record { answer = refused (broken_record (field_size (extents_length (length h.extents)))); lent = out }) (write_answer h odds out (writable h odds (length out)))
-unfolding writable pairs_checked
-unequal h odds out e = rw e refl
+    pub not_written : (r : Refusal) → refused r ≡ writable_rows m w n rows_at odds (length out)
+        → ◌≡◌ {A = Outcome ℕ (List ℕ)} (record { answer = refused r; lent = out }) (write_answer h odds out (writable h odds (length out)))
+    not_written r e = rw (writable_is, sym e) refl
+
+    pub written : (size : ℕ) (out₁ out₂ : List ℕ) → n * w ≤ length odds
+        → given size ≡ writable_rows m w n rows_at odds (length out)
+        → out₁ ≡ sets out 0 (field extents_tag (extent_bytes h.extents))
+        → out₂ ≡ sets out₁ start (rest_bytes m h.frame w n odds)
+        → ◌≡◌ {A = Outcome ℕ (List ℕ)} (record { answer = given size; lent = out₂ }) (write_answer h odds out (writable h odds (length out)))
+    written size out₁ out₂ there e a b =
+        let extents : List ℕ = field extents_tag (extent_bytes h.extents) in
+        let rest : List ℕ = rest_bytes m h.frame w n odds in
+        let first : length extents ≡ start = length_extents h.extents ∙ sym there_is in
+        let sized : size ≡ size_of rows_at w n = given_size m w n rows_at odds (length out) size (sym e) in
+        let fits = given_room m w n rows_at odds (length out) size (sym e) in
+        let long = length_rest m h.frame w n odds there in
+        let both = length-append extents rest in
+        let all : out₂ ≡ sets out 0 (extents ++ rest) = then_run extents rest out out₁ out₂ 0 start a b (omega arith) in
+        let is : record_bytes h odds ≡ extents ++ rest =
+        record_is h odds ∙ rw (shape.width_is, shape.count_is) (ap (λ (k : Model). extents ++ rest_bytes k h.frame w n odds) (sym kept_is.0)) in
+        let k : 0 + length (extents ++ rest) ≡ size = omega arith in
+        let stands : out₂ ≡ record_bytes h odds ++ drop size out =
+        all ∙ sets-eq (extents ++ rest) out 0 (omega arith) ∙ ap (λ (j : ℕ). [] ++ (extents ++ rest) ++ drop j out) k ∙ ap (λ (bs : List ℕ). bs ++ drop size out) (sym is) in
+        rw (writable_is, sym e, stands) refl
 
 -- the rows are the list's
 pub all_there : (es : List ℕ) (w n : ℕ) (odds : List Float) → Shape es w n → length odds ≡ cells es → n * w ≤ length odds

@@ -1,16 +1,21 @@
 -- What writing a record answers, with the bytes as they stand afterwards; and its last two refusals by the rows' width
 -- and number. Definitions only.
-use Rattle.std.specs.Prelude.{ℕ, ◌+◌, ◌*◌, cond, List, [], ◌++◌, leb, Float}
+use Rattle.std.specs.Prelude.{ℕ, ◌+◌, ◌*◌, cond, List, [], ◌++◌, leb, Float, Result}
+use Rattle.std.proofs.Math.Option.{Option, some, none}
 use Rattle.rules.specs.RefusalNumbers.{Answer, given, refused, and_then, no_room}
 use Rattle.rules.specs.RefusalNumbers.Entries.{Outcome}
-use Rattle.rules.specs.TheGridAndItsBounds.{Model}
+use Rattle.rules.specs.TheGridAndItsBounds.{Model, plain_model}
 use Rattle.rules.specs.Fields.{little_endian, word_size, field, field_size}
-use Rattle.rules.specs.MapRecord.{model_tag, model_bytes, frame_tag, row_length, end_tag, end_length, rows_bytes, rows_checked}
+use Rattle.rules.specs.MapRecord.{model_tag, model_bytes, frame_tag, row_length, end_tag, end_length, rows_bytes, rows_checked, equal_pairs}
 use Rattle.types.specs.Answers.{count_answer}
-use Rattle.types.specs.declared.answers.CountAnswer.{CountAnswer}
+use Rattle.types.specs.declared.refusal.Refusal.{Refusal}
 
-abbrev pub write_outcome : CountAnswer → List ℕ → Outcome ℕ (List ℕ)
+abbrev pub write_outcome : Result ℕ Refusal → List ℕ → Outcome ℕ (List ℕ)
 write_outcome r out = record { answer = count_answer r; lent = out }
+
+-- the model that edition 1 keeps of a map's: one pair for all bands, where they have one
+unfoldable pub one_model : Model → Option Model
+one_model m = cond (equal_pairs m.lowest m.above) (some (plain_model m.lowest m.ceiling)) none
 
 -- the size of a record whose rows start at this offset
 abbrev pub size_of : ℕ → ℕ → ℕ → ℕ

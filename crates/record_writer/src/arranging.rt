@@ -10,10 +10,9 @@ ghost use Rattle.types.specs.Models.{model_of};
 ghost use Rattle.record_writer.specs.Writing.{size_of, writable_rows, rest_bytes};
 
 use crate::parts::{put_end, put_frame, put_model};
-use checks::Check;
 use fields::{END_SIZE, FLOAT_SIZE, FRAME_SIZE, HEAD_SIZE, MODEL_SIZE};
 use rows::{rows_writable, write_rows};
-use types::{CountAnswer, Frame, Model, Refusal};
+use types::{Frame, Model, Refusal};
 
 // The record's size, or why it cannot be written. The rows are the list's and short, and the bytes can be counted.
 pub fn size_if_writable(
@@ -23,24 +22,20 @@ pub fn size_if_writable(
     model: Model,
     at: usize,
     room: usize,
-) -> CountAnswer
-    requires fact_1 { count * width ≤ length odds.now }
-    requires fact_2 { size_of at width count < 2 ^ 64 }
-    requires fact_3 { width ≤ most_extent }
+) -> Result<u64, Refusal>
+    requires all_there { count * width ≤ length odds.now }
+    requires countable { size_of at width count < 2 ^ 64 }
+    requires short { width ≤ most_extent }
     ensures { count_answer result ≡ writable_rows (model_of model) width count at odds.now room }
 {
-    match rows_writable(odds, width, count, model, at) {
-        Check::Refused(r) => CountAnswer::Refused(r),
-        Check::Passed => {
-            let size = at + count * (HEAD_SIZE + FLOAT_SIZE * width) + END_SIZE;
-            if size <= room {
-                return CountAnswer::Count(size as u64);
-            }
-            CountAnswer::Refused(Refusal::Room {
-                needed: size as u64,
-            })
-        }
+    rows_writable(odds, width, count, model, at)?;
+    let size = at + count * (HEAD_SIZE + FLOAT_SIZE * width) + END_SIZE;
+    if size <= room {
+        return Ok(size as u64);
     }
+    Err(Refusal::Room {
+        needed: size as u64,
+    })
 }
 
 // The fields after the extents'. The rows are the list's and short, and there is room for all.
@@ -53,9 +48,9 @@ pub fn put_rest(
     width: usize,
     count: usize,
 )
-    requires fact_1 { size_of (at + field_size model_length + field_size frame_length) width count ≤ length out.old }
-    requires fact_2 { count * width ≤ length odds.now }
-    requires fact_3 { width ≤ most_extent }
+    requires room { size_of (at + field_size model_length + field_size frame_length) width count ≤ length out.old }
+    requires all_there { count * width ≤ length odds.now }
+    requires short { width ≤ most_extent }
     ensures { out.new
         ≡ sets out.old at (rest_bytes (model_of model) frame.0 width count odds.now) }
 {

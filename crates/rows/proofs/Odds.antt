@@ -21,13 +21,13 @@ odds_by_ceiling m k e [] = refl
 odds_by_ceiling m k e (x ∷ xs) = ap₂ ◌&&◌ (ap (λ (c : Float). le (neg c) x && le x c) e) (odds_by_ceiling m k e xs)
 
 -- ---- a row's floats
-pub floats_step : (n at : ℕ) (bs : List ℕ) → 0 < n
-    → floats_in n (drop at bs) ≡ of_bits binary64 (from_little_endian 8 (drop at bs)) ∷ floats_in (n - 1) (drop (at + 8) bs)
+pub floats_step : (n i at : ℕ) (bs : List ℕ) → i < n
+    → floats_in (n - i) (drop (at + 8 * i) bs) ≡ of_bits binary64 (from_little_endian 8 (drop (at + 8 * i) bs)) ∷ floats_in (n - (i + 1)) (drop (at + 8 * (i + 1)) bs)
 unfolding floats_in
-floats_step zero at bs h = absurd (omega arith)
-floats_step (suc n) at bs h =
-    let e : suc n - 1 ≡ n = omega arith in
-    rw (e, drop-drop) refl
+floats_step n i at bs h =
+    let e : n - i ≡ suc (n - (i + 1)) = omega arith in
+    let k : at + 8 * i + 8 ≡ at + 8 * (i + 1) = omega arith in
+    rw (e, drop-drop 8 (at + 8 * i) bs, k) refl
 
 pub length_floats : (n : ℕ) (bs : List ℕ) → length (floats_in n bs) ≡ n
 unfolding floats_in
@@ -35,12 +35,11 @@ length_floats zero bs = refl
 length_floats (suc n) bs = ap suc (length_floats n (drop 8 bs))
 
 -- ---- the rows' floats
-pub rows_step : (w n at : ℕ) (bs : List ℕ) → 0 < n
-    → odds_at w n (drop at bs) ≡ floats_in w (drop (at + head_size) bs) ++ odds_at w (n - 1) (drop (at + field_size (row_length w)) bs)
+pub rows_step : (w n i at : ℕ) (bs : List ℕ) → i < n
+    → odds_at w (n - i) (drop at bs) ≡ floats_in w (drop (at + head_size) bs) ++ odds_at w (n - (i + 1)) (drop (at + field_size (row_length w)) bs)
 unfolding odds_at
-rows_step w zero at bs h = absurd (omega arith)
-rows_step w (suc n) at bs h =
-    let e : suc n - 1 ≡ n = omega arith in
+rows_step w n i at bs h =
+    let e : n - i ≡ suc (n - (i + 1)) = omega arith in
     rw (e, drop-drop head_size at bs, drop-drop (field_size (row_length w)) at bs) refl
 
 pub length_rows : (w n : ℕ) (bs : List ℕ) → length (odds_at w n bs) ≡ n * w

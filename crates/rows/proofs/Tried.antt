@@ -23,13 +23,12 @@ module _ (m : Model) (w : ℕ) where
   size = field_size (row_length w)
 
   -- the first of the rows that are left, and those after it
-  pub rows_left : (n offset : ℕ) (rest : List ℕ) → 0 < n
-      → rows_refusal m w n offset rest
-      ≡ unless_sound offset (sound_here (row_field m w) rest)
-      (rows_refusal m w (n - 1) (offset + field_size (row_length w)) (drop (field_size (row_length w)) rest))
+  pub rows_left : (n i at : ℕ) (bs : List ℕ) → i < n
+      → rows_refusal m w (n - i) at (drop at bs)
+      ≡ unless_sound at (sound_here (row_field m w) (drop at bs))
+      (rows_refusal m w (n - (i + 1)) (at + field_size (row_length w)) (drop (at + field_size (row_length w)) bs))
   unfolding rows_refusal
-  rows_left zero offset rest h = absurd (omega arith)
-  rows_left (suc n) offset rest h = let e : suc n - 1 ≡ n = omega arith in rw e refl
+  rows_left n i at bs h = let e : n - i ≡ suc (n - (i + 1)) = omega arith in rw (e, drop-drop (field_size (row_length w)) at bs) refl
 
   -- the bytes that rows which are passed take
   pub rows_room : (n offset : ℕ) (rest : List ℕ) → rows_refusal m w n offset rest ≡ none → n * field_size (row_length w) ≤ length rest

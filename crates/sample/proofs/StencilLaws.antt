@@ -13,13 +13,10 @@ use Rattle.rules.specs.RefusalNumbers.Entries.{first_too_small}
 use Rattle.rules.specs.TheGridAndItsBounds.{least_extent, all_at_least}
 use Rattle.rules.specs.Coordinates.{StencilAxis, truncated, folded_axis, stencil_axis, stencil, joined}
 use Rattle.types.proofs.Injective.{Injective, of_back}
-use Rattle.types.proofs.InjectiveAnswers.{read_back}
+use Rattle.types.proofs.InjectiveAnswers.{found_injective}
 use Rattle.sample.specs.declared.stencil.StencilAxis as Code
 use Rattle.sample.specs.declared.stencil.Stencil2.{Stencil2}
 use Rattle.sample.specs.declared.stencil.Stencil3.{Stencil3}
-use Rattle.sample.specs.declared.stencil.OnAxis as OnAxis
-use Rattle.sample.specs.declared.stencil.Stencilled2 as Stencilled2
-use Rattle.sample.specs.declared.stencil.Stencilled3 as Stencilled3
 use Rattle.sample.specs.Stencil.{axis_of, on_axis, stencil2, stencil3, stencilled2, stencilled3}
 
 left : (a b : Bool) → (a && b) ≡ true → a ≡ true
@@ -156,23 +153,11 @@ stencil2_injective = of_back stencil2 stencil2_back (λ s. refl)
 pub stencil3_injective : Injective stencil3
 stencil3_injective = of_back stencil3 stencil3_back (λ s. refl)
 
-on_axis_there : (o : OnAxis.OnAxis) → read_back (λ a. OnAxis.TheVariants.In (axis_back a)) OnAxis.TheVariants.Nothing (on_axis o) ≡ o
-on_axis_there (OnAxis.TheVariants.In a) = refl
-on_axis_there OnAxis.TheVariants.Nothing = refl
-
 pub on_axis_injective : Injective on_axis
-on_axis_injective = of_back on_axis (read_back (λ a. OnAxis.TheVariants.In (axis_back a)) OnAxis.TheVariants.Nothing) on_axis_there
-
-stencilled2_there : (o : Stencilled2.Stencilled2) → read_back (λ s. Stencilled2.TheVariants.At (stencil2_back s)) Stencilled2.TheVariants.Nothing (stencilled2 o) ≡ o
-stencilled2_there (Stencilled2.TheVariants.At s) = refl
-stencilled2_there Stencilled2.TheVariants.Nothing = refl
+on_axis_injective = found_injective axis_of axis_of_injective
 
 pub stencilled2_injective : Injective stencilled2
-stencilled2_injective = of_back stencilled2 (read_back (λ s. Stencilled2.TheVariants.At (stencil2_back s)) Stencilled2.TheVariants.Nothing) stencilled2_there
-
-stencilled3_there : (o : Stencilled3.Stencilled3) → read_back (λ s. Stencilled3.TheVariants.At (stencil3_back s)) Stencilled3.TheVariants.Nothing (stencilled3 o) ≡ o
-stencilled3_there (Stencilled3.TheVariants.At s) = refl
-stencilled3_there Stencilled3.TheVariants.Nothing = refl
+stencilled2_injective = found_injective stencil2 stencil2_injective
 
 pub stencilled3_injective : Injective stencilled3
-stencilled3_injective = of_back stencilled3 (read_back (λ s. Stencilled3.TheVariants.At (stencil3_back s)) Stencilled3.TheVariants.Nothing) stencilled3_there
+stencilled3_injective = found_injective stencil3 stencil3_injective

@@ -1,6 +1,6 @@
 -- The leaves of a sample, in every format: weights, sums and differences over the corners of one axis, of two and of
 -- three, by what the code's calls answered. Assumes nothing.
-use Rattle.std.proofs.Common.{◌≡◌, List, [], ◌∷◌, refl}
+use Rattle.std.proofs.Common.{◌≡◌, [], ◌∷◌, refl}
 use lib.Ieee.{Float, Format, sub, mul}
 use Rattle.rules.specs.Floats.{zero_f, one_f}
 use Rattle.rules.specs.Coordinates.{corners, weighed, weighed_without, value_from, slope_from, gradient_from}

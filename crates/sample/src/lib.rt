@@ -2,10 +2,8 @@
 #![tactic(auto)]
 
 mod sample;
+mod samples;
 mod stencil;
 
-pub use sample::{sample_log_odds2, sample_log_odds3};
-pub use stencil::{
-    Stencil2, Stencil3, StencilAxis, Stencilled2, Stencilled3, stencil_containing2,
-    stencil_containing3,
-};
+pub use samples::Samples;
+pub use stencil::{Stencil2, Stencil3, StencilAxis};

@@ -2,9 +2,11 @@
 // alone; here is only how the lists are laid out.
 #![tactic(auto)]
 
-mod entry2;
-mod entry3;
+mod entry;
+mod listed;
+mod listed2;
+mod listed3;
 mod shape;
 
-pub use entry2::sample_all_log_odds2;
-pub use entry3::sample_all_log_odds3;
+pub use entry::sample_all_log_odds;
+pub use listed::Listed;

@@ -6,8 +6,7 @@ use checks::so_many_each;
 
 // The lists of a map of so many axes, which is few: its points, its slots and its marks.
 pub fn same_counts(axes: usize, points: usize, samples: usize, found: usize) -> bool
-    requires fact_1 { 0 < axes }
-    requires fact_2 { axes < 4 }
+    requires { axes < 4 }
     ensures { result ≡ same_counts axes points samples found }
 {
     if so_many_each(points, axes, found) {

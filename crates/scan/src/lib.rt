@@ -2,8 +2,6 @@
 // The original's ScanUpdater.
 #![tactic(auto)]
 
-mod updater2;
-mod updater3;
+mod updater;
 
-pub use updater2::ScanUpdater2;
-pub use updater3::ScanUpdater3;
+pub use updater::{ScanUpdater, ScanUpdater2, ScanUpdater3};

@@ -13,9 +13,9 @@ use lib.ListN.{length, get_or, drop, replicate, get_or-eq_default}
 use lib.Seq.{get_or-drop}
 use borrow.Author.Tests.{eqb-true, eqb-false}
 use Rattle.rules.specs.LayerChart.{maximum_overlap, random_overlap}
-use Rattle.rules.specs.SeasonReport.{stood, differs, night_column, night, plus, empty_report, run_report, good_column, good_columns, nine_counts, good_report_column, good_report}
+use Rattle.rules.specs.SeasonReport.{stood, differs, night_column, night, plus, run_report, good_column, good_columns, nine_counts, good_report_column, good_report}
 use Rattle.laws.specs.Floats.Tests.{order}
-use Rattle.chart.specs.Totals.{all_below, each_below, overlaps}
+use Rattle.chart.specs.Totals.{each_below, overlaps}
 use Rattle.season.proofs.Sums.{get_d_plus}
 use Rattle.season.proofs.Runs.{night-length, night-at, run_length}
 

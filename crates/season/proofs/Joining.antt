@@ -1,11 +1,11 @@
 -- Two lists added number by number: those before one are sums, and the rest stands as it was. Assumes nothing.
 use Prim.Native.Nat.{ℕ, suc, ◌+◌, ◌≤◌, ◌<◌}
-use mathlib.Core.Path.{◌≡◌, refl, sym, ap, ◌∙◌}
-use mathlib.Core.List.{List, [], ◌∷◌, ◌++◌, append-nil}
+use mathlib.Core.Path.{◌≡◌, sym, ap, ◌∙◌}
+use mathlib.Core.List.{List, [], ◌∷◌, ◌++◌}
 use native.Mathlib.Numerals.{add-one}
 use native.Mathlib.Omega.{arith}
-use lib.ListN.{length, get_or, take, drop, set, length-append, length-drop}
-use lib.Seq.{take-suc, take_all, drop-cons, drop-length, set_at, get_or_at, append_snoc, length-take-le}
+use lib.ListN.{length, get_or, take, drop, set}
+use lib.Seq.{take-suc, drop-cons, set_at, get_or_at, append_snoc, length-take-le}
 use Rattle.rules.specs.SeasonReport.{plus}
 use Rattle.season.proofs.Sums.{plus-length, plus_append}
 
@@ -18,9 +18,6 @@ module _ (report₀ other : List ℕ) where
 
   sums_length : (i : ℕ) → i ≤ length report₀ → length (sums i) ≡ i
   sums_length i h = plus-length (take i report₀) (take i other) ∙ length-take-le i report₀ h
-
-  pub joined_length : (i : ℕ) (report : List ℕ) → Joined i report → i ≤ length report₀ → length report ≡ length report₀
-  joined_length i report w h = ap length w ∙ length-append (sums i) (drop i report₀) ∙ omega (arith, sums_length i h, length-drop i report₀)
 
   -- the number that is next has not been changed
   pub next_number : (i : ℕ) (report : List ℕ) → Joined i report → i < length report₀ → get_or report i 0 ≡ get_or report₀ i 0
@@ -44,9 +41,3 @@ module _ (report₀ other : List ℕ) where
       ∙ ap (λ (l : List ℕ). plus l (take i other ++ y ∷ [])) (sym (take-suc report₀ i 0 h))
       ∙ ap (plus (take (suc i) report₀)) (sym (take-suc other i 0 (omega arith))))
       ∙ ap (λ (n : ℕ). sums n ++ drop n report₀) (sym (add-one i))
-
-  pub all-joined : (i : ℕ) (report : List ℕ) → Joined i report → i ≡ length report₀ → length other ≡ length report₀ → report ≡ plus report₀ other
-  all-joined i report w e same =
-      w ∙ ap (λ (n : ℕ). sums n ++ drop n report₀) e ∙ ap (λ (l : List ℕ). sums (length report₀) ++ l) (drop-length report₀) ∙ append-nil (sums (length report₀))
-      ∙ ap (λ (l : List ℕ). plus l (take (length report₀) other)) (take_all (length report₀) report₀ (omega arith))
-      ∙ ap (plus report₀) (take_all (length report₀) other (omega arith))

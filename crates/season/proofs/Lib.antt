@@ -1,7 +1,6 @@
 pub mod Joining
 pub mod Night
 pub mod Running
-pub mod Testing
 pub mod Sums
 pub mod Runs
 pub mod Good

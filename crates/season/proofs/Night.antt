@@ -1,14 +1,14 @@
 -- A night column by column: the columns before one have theirs, and the rest of the list stands as it was. Assumes
 -- nothing.
-use Prim.Native.Nat.{ℕ, zero, suc, ◌+◌, ◌-◌, ◌*◌, ◌≤◌, ◌<◌}
+use Prim.Native.Nat.{ℕ, zero, suc, ◌+◌, ◌*◌, ◌≤◌, ◌<◌}
 use mathlib.Core.Path.{◌≡◌, refl, sym, ap, ◌∙◌}
 use mathlib.Core.Bool.{true}
-use mathlib.Core.List.{List, [], ◌∷◌, ◌++◌, append_assoc, append-nil}
-use native.Mathlib.Nat.{add-zero, mul-suc}
+use mathlib.Core.List.{List, [], ◌∷◌, ◌++◌, append_assoc}
+use native.Mathlib.Nat.{add-zero}
 use native.Mathlib.Numerals.{add-one}
 use native.Mathlib.Omega.{arith}
-use lib.ListN.{length, get_or, take, drop, set, length-append, length-drop}
-use lib.Seq.{get_or-append-add, get_or-drop, take-add, drop-drop, drop-length, take_all, length-take-le}
+use lib.ListN.{length, get_or, take, drop, set, length-drop}
+use lib.Seq.{get_or-append-add, get_or-drop, take-add, drop-drop, length-take-le}
 use Rattle.rules.specs.SeasonReport.{differs, night_column, night, plus, good_columns}
 use Rattle.season.proofs.Sums.{plus-length, plus_append}
 use Rattle.chart.specs.Totals.{overlaps}
@@ -80,10 +80,6 @@ module _ (report₀ chart : List ℕ) where
   raised_length : (n : ℕ) → 12 * n ≤ length report₀ → length (raised n) ≡ 12 * n
   raised_length n h = plus-length (take (12 * n) report₀) (night chart n) ∙ length-take-le (12 * n) report₀ h
 
-  pub added_length : (n : ℕ) (report : List ℕ) → Added n report → 12 * n ≤ length report₀ → length report ≡ length report₀
-  added_length n report w h =
-      ap length w ∙ length-append (raised n) (drop (12 * n) report₀) ∙ omega (arith, raised_length n h, length-drop (12 * n) report₀)
-
   pub still_roomy : (n : ℕ) (report : List ℕ) → Added n report → 12 * n ≤ length report₀ → Roomy report₀ 0 → Roomy report (12 * n)
   still_roomy n report w h room i =
       let there : get_or report (12 * n + i) 0 ≡ get_or report₀ (0 + (12 * n + i)) 0 =
@@ -113,14 +109,6 @@ module _ (report₀ chart : List ℕ) where
       ∙ ap (λ (l : List ℕ). plus (take (12 * n + 12) report₀) (night chart (suc n)) ++ l) (drop-drop 12 (12 * n) report₀)
       ∙ ap (λ (k : ℕ). plus (take k report₀) (night chart (suc n)) ++ drop k report₀) twelve_more
       ∙ ap (λ (k : ℕ). plus (take (12 * (n + 1)) report₀) (night chart k) ++ drop (12 * (n + 1)) report₀) (sym (add-one n))
-
-  pub all_added : (n columns : ℕ) (report : List ℕ) → Added n report → n ≡ columns → length report₀ ≡ 12 * columns → report ≡ plus report₀ (night chart columns)
-  all_added n columns report w e size =
-      w ∙ ap (λ (k : ℕ). plus (take (12 * k) report₀) (night chart k) ++ drop (12 * k) report₀) e
-      ∙ ap (λ (k : ℕ). plus (take k report₀) (night chart columns) ++ drop k report₀) (sym size)
-      ∙ ap (λ (l : List ℕ). plus (take (length report₀) report₀) (night chart columns) ++ l) (drop-length report₀)
-      ∙ append-nil (plus (take (length report₀) report₀) (night chart columns))
-      ∙ ap (λ (l : List ℕ). plus l (night chart columns)) (take_all (length report₀) report₀ (omega arith))
 
 -- ---- a chart within a run
 pub in_run : (run : List ℕ) (from n j : ℕ) → get_or run (5 * (from + n) + j) 0 ≡ get_or (drop (5 * from) run) (5 * n + j) 0

@@ -1,12 +1,12 @@
 -- A run night by night: what one more adds, and that no number wraps. Assumes nothing.
 use Prim.Native.Nat.{ℕ, ◌+◌, ◌*◌, ◌≤◌, ◌<◌}
-use mathlib.Core.Path.{◌≡◌, refl, sym, ap, ◌∙◌}
+use mathlib.Core.Path.{◌≡◌, sym, ap, ◌∙◌}
 use mathlib.Core.Bool.{true}
 use mathlib.Core.List.{List}
 use native.Mathlib.Nat.{mul_assoc, mul-add, mul-one, mul-le-mul_left}
 use native.Mathlib.Omega.{arith}
 use lib.Dec.{T}
-use lib.ListN.{length, get_or, drop, replicate}
+use lib.ListN.{length, drop, replicate}
 use lib.Ieee.Bits.{is_true}
 use Rattle.rules.specs.SeasonReport.{most_charts, night, plus, run_report, good_columns, good_report}
 use Rattle.season.proofs.Sums.{plus_assoc, plus-length, plus_zeros}

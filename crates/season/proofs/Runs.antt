@@ -1,5 +1,5 @@
 -- Runs of charts: a joined run's report is the sum of the parts'. Assumes nothing.
-use Prim.Native.Nat.{ℕ, zero, suc, ◌+◌, ◌-◌, ◌*◌, ◌≤◌, ◌<◌}
+use Prim.Native.Nat.{ℕ, zero, suc, ◌+◌, ◌*◌, ◌≤◌, ◌<◌}
 use mathlib.Core.Path.{◌≡◌, refl, sym, ap, ◌∙◌}
 use mathlib.Core.Bool.{Bool, true, false}
 use mathlib.Core.List.{List, [], ◌∷◌, ◌++◌}
@@ -9,7 +9,7 @@ use lib.ListN.{length, get_or, take, drop, replicate, length-append, length-drop
 use lib.Seq.{drop-append-le, get_or-append-add, length-take-le}
 use lib.Dec.{eqb}
 use borrow.Author.Tests.{eqb-true, eqb-false}
-use Rattle.rules.specs.SeasonReport.{night_column, night, plus, empty_report, run_report}
+use Rattle.rules.specs.SeasonReport.{night_column, night, plus, run_report}
 use Rattle.season.proofs.Sums.{plus-length, plus_assoc, plus_zeros, zeros_plus}
 
 column-length : (total random : ℕ) → length (night_column total random) ≡ 12

@@ -1,12 +1,12 @@
 -- A report's answer with its list as it stands afterwards; the store of one night in one column; and numbers that
 -- cannot wrap. Definitions only.
-use Rattle.std.specs.Prelude.{ℕ, ◌+◌, ◌*◌, ◌<◌, List, get_or, set}
+use Rattle.std.specs.Prelude.{ℕ, ◌+◌, ◌*◌, ◌<◌, List, get_or, set, Result}
 use Rattle.rules.specs.RefusalNumbers.Entries.{Outcome}
 use Rattle.rules.specs.SeasonReport.{differs}
 use Rattle.types.specs.Answers.{count_answer}
-use Rattle.types.specs.declared.answers.CountAnswer as CountAnswer
+use Rattle.types.specs.declared.refusal.Refusal.{Refusal}
 
-abbrev pub report_outcome : CountAnswer.CountAnswer → List ℕ → Outcome ℕ (List ℕ)
+abbrev pub report_outcome : Result ℕ Refusal → List ℕ → Outcome ℕ (List ℕ)
 report_outcome r report = record { answer = count_answer r; lent = report }
 
 -- four of the twelve numbers from this place on are raised: the count of the total, whether the rules differ, and the

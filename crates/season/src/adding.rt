@@ -17,10 +17,10 @@ fn differ(total: u16, random: u16) -> u32
 
 // One night of one column. Its numbers are the list's.
 fn add_column(report: &mut [u32], at: usize, total: u16, random: u16)
-    requires fact_1 { at + 12 ≤ length report.old }
-    requires fact_2 { total ≤ 8 }
-    requires fact_3 { random ≤ 512 }
-    requires fact_4 { Roomy report.old at }
+    requires within { at + 12 ≤ length report.old }
+    requires total_most { total ≤ 8 }
+    requires random_most { random ≤ 512 }
+    requires roomy { Roomy report.old at }
     ensures { report.new ≡ added_column report.old at total random }
 {
     let grade = at + total as usize;
@@ -36,47 +36,40 @@ fn add_column(report: &mut [u32], at: usize, total: u16, random: u16)
 
 // One night: a chart of so many columns, which begins at this column of the run. It is a good one.
 fn add_night(report: &mut [u32], columns: usize, run: &[u16], from: usize)
-    requires fact_1 { length report.old ≡ 12 * columns }
-    requires fact_2 { 5 * (from + columns) ≤ length run.now }
-    requires fact_3 { good_columns run.now (from + columns) ≡ true }
-    requires fact_4 { Roomy report.old 0 }
+    requires twelve_each { length report.old ≡ 12 * columns }
+    requires charts_in_run { 5 * (from + columns) ≤ length run.now }
+    requires all_good { good_columns run.now (from + columns) ≡ true }
+    requires roomy { Roomy report.old 0 }
     ensures { report.new ≡ plus report.old (night (drop (5 * from) run.now) columns) }
 {
-    let mut n: usize = 0;
-    while n < columns {
+    for n in 0..columns {
         let at = 5 * (from + n);
         add_column(report, 12 * n, run[at + 3], run[at + 4]);
-        n += 1;
     }
 }
 
 // A run of so many nights. The charts and the report are good, and together not too many.
 pub fn add_run(charts: u64, report: &mut [u32], columns: usize, count: usize, run: &[u16])
-    requires fact_1 { length report.old ≡ 12 * columns }
-    requires fact_2 { length run.now ≡ 5 * columns * count }
-    requires fact_3 { charts + count ≤ most_charts }
-    requires fact_4 { good_columns run.now (columns * count) ≡ true }
-    requires fact_5 { good_report charts report.old columns ≡ true }
+    requires twelve_each { length report.old ≡ 12 * columns }
+    requires five_each { length run.now ≡ 5 * columns * count }
+    requires few { charts + count ≤ most_charts }
+    requires run_good { good_columns run.now (columns * count) ≡ true }
+    requires report_good { good_report charts report.old columns ≡ true }
     ensures { report.new ≡ plus report.old (run_report columns count run.now) }
 {
-    let mut n: usize = 0;
-    while n < count {
+    for n in 0..count {
         add_night(report, columns, run, columns * n);
-        n += 1;
     }
 }
 
 // Another report, number by number. It is as long.
 pub fn add_all(report: &mut [u32], other: &[u32])
-    requires fact_1 { length other.now ≡ length report.old }
-    requires fact_2 { RoomyWith report.old other.now }
+    requires as_long { length other.now ≡ length report.old }
+    requires roomy { RoomyWith report.old other.now }
     ensures { report.new ≡ plus report.old other.now }
 {
-    let mut i: usize = 0;
-    while i < report.len() {
-        let sum = report[i] + other[i];
-        report[i] = sum;
-        i += 1;
+    for (i, sum) in report.iter_mut().enumerate() {
+        *sum += other[i];
     }
 }
 
@@ -84,9 +77,5 @@ pub fn add_all(report: &mut [u32], other: &[u32])
 pub fn clear(report: &mut [u32])
     ensures { report.new ≡ replicate (length report.old) 0 }
 {
-    let mut i: usize = 0;
-    while i < report.len() {
-        report[i] = 0;
-        i += 1;
-    }
+    report.fill(0);
 }

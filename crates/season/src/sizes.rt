@@ -15,18 +15,12 @@ pub fn is_report(size: usize) -> bool
 pub fn same_sizes(report: usize, count: usize, run: usize) -> bool
     ensures { result ≡ (is_report report && eqb run (5 * report_columns report * count)) }
 {
-    if is_report(report) {
-        return so_many_each(run, 5 * (report / 12), count);
-    }
-    false
+    is_report(report) && so_many_each(run, 5 * (report / 12), count)
 }
 
 // A report's list, and another as long.
 pub fn same_reports(report: usize, other: usize) -> bool
     ensures { result ≡ (is_report report && eqb other report) }
 {
-    if is_report(report) {
-        return other == report;
-    }
-    false
+    is_report(report) && other == report
 }

@@ -4,14 +4,14 @@ ghost use Rattle.std.specs.Prelude.{◌≡◌, []};
 ghost use Rattle.rules.specs.RefusalNumbers.Entries.{read_record_entry, write_record_entry};
 ghost use Rattle.types.specs.Models.{cuts_of};
 ghost use Rattle.marks.specs.Marking.{grid_of};
-ghost use Rattle.grid_map.specs.Heads.{head2, head3};
+ghost use Rattle.c_types.specs.Heads.{head2, head3};
 ghost use Rattle.c_types.specs.Answers.{Told, c_map2, c_map3, c_count};
 
-use c_types::{CCountAnswer, CMapAnswer2, CMapAnswer3, count_to_c, map2_to_c, map3_to_c};
+use c_types::{CCountAnswer, CMap2, CMap3, CMapAnswer2, CMapAnswer3};
 use grid_map::{GridMap2, GridMap3};
-use record_reader::{read_record2, read_record3};
-use record_writer::{write_record2, write_record3};
-use types::Cuts;
+use record_reader::read_record;
+use record_writer::write_record;
+use types::{Cuts, Extents2, Extents3};
 
 #[unsafe(no_mangle)]
 pub extern "C" fn tembuzar_read_record2(
@@ -22,18 +22,14 @@ pub extern "C" fn tembuzar_read_record2(
     ensures { Told c_map2 (read_record_entry 2 [] bytes.now (grid_of odds.old stamps.old))
         result (grid_of odds.new stamps.new) }
 {
-    map2_to_c(read_record2(bytes, odds, stamps))
+    CMapAnswer2::from(read_record::<Extents2>(bytes, (), odds, stamps))
 }
 
 #[unsafe(no_mangle)]
-pub extern "C" fn tembuzar_write_record2(
-    map: GridMap2,
-    odds: &[f64],
-    out: &mut [u8],
-) -> CCountAnswer
+pub extern "C" fn tembuzar_write_record2(map: CMap2, odds: &[f64], out: &mut [u8]) -> CCountAnswer
     ensures { Told c_count (write_record_entry (head2 map) odds.now out.old) result out.new }
 {
-    count_to_c(write_record2(map, odds, out))
+    CCountAnswer::from(write_record(GridMap2::from(map), odds, out))
 }
 
 #[unsafe(no_mangle)]
@@ -46,16 +42,12 @@ pub extern "C" fn tembuzar_read_record3(
     ensures { Told c_map3 (read_record_entry 3 (cuts_of cuts) bytes.now (grid_of odds.old stamps.old))
         result (grid_of odds.new stamps.new) }
 {
-    map3_to_c(read_record3(bytes, cuts, odds, stamps))
+    CMapAnswer3::from(read_record::<Extents3>(bytes, cuts, odds, stamps))
 }
 
 #[unsafe(no_mangle)]
-pub extern "C" fn tembuzar_write_record3(
-    map: GridMap3,
-    odds: &[f64],
-    out: &mut [u8],
-) -> CCountAnswer
+pub extern "C" fn tembuzar_write_record3(map: CMap3, odds: &[f64], out: &mut [u8]) -> CCountAnswer
     ensures { Told c_count (write_record_entry (head3 map) odds.now out.old) result out.new }
 {
-    count_to_c(write_record3(map, odds, out))
+    CCountAnswer::from(write_record(GridMap3::from(map), odds, out))
 }

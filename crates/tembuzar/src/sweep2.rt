@@ -5,17 +5,17 @@ ghost use Rattle.rules.specs.RefusalNumbers.Entries.{mark_entry, update_ray_entr
 ghost use Rattle.types.specs.Beams.{beam2};
 ghost use Rattle.types.specs.Points.{cell2};
 ghost use Rattle.marks.specs.Marking.{grid_of};
-ghost use Rattle.grid_map.specs.Heads.{head2};
+ghost use Rattle.c_types.specs.Heads.{head2};
 ghost use Rattle.c_types.specs.Answers.{Told, c_mark, c_count};
 
-use c_types::{CCountAnswer, CMarkAnswer, count_to_c, mark_to_c};
+use c_types::{CCountAnswer, CMap2, CMarkAnswer};
 use grid_map::GridMap2;
-use scan::ScanUpdater2;
+use scan::ScanUpdater;
 use types::{Cell2, ScanBeam2};
 
 #[unsafe(no_mangle)]
 pub extern "C" fn tembuzar_mark_free2(
-    map: GridMap2,
+    map: CMap2,
     odds: &mut [f64],
     stamps: &mut [u32],
     cell: Cell2,
@@ -23,12 +23,15 @@ pub extern "C" fn tembuzar_mark_free2(
     ensures { Told c_mark (mark_entry binary64 false (head2 map) (cell2 cell) (grid_of odds.old stamps.old))
         result (grid_of odds.new stamps.new) }
 {
-    mark_to_c(ScanUpdater2 { map }.mark_free(odds, stamps, cell))
+    let sweep = ScanUpdater {
+        map: GridMap2::from(map),
+    };
+    CMarkAnswer::from(sweep.mark_free(odds, stamps, cell))
 }
 
 #[unsafe(no_mangle)]
 pub extern "C" fn tembuzar_mark_occupied2(
-    map: GridMap2,
+    map: CMap2,
     odds: &mut [f64],
     stamps: &mut [u32],
     cell: Cell2,
@@ -36,12 +39,15 @@ pub extern "C" fn tembuzar_mark_occupied2(
     ensures { Told c_mark (mark_entry binary64 true (head2 map) (cell2 cell) (grid_of odds.old stamps.old))
         result (grid_of odds.new stamps.new) }
 {
-    mark_to_c(ScanUpdater2 { map }.mark_occupied(odds, stamps, cell))
+    let sweep = ScanUpdater {
+        map: GridMap2::from(map),
+    };
+    CMarkAnswer::from(sweep.mark_occupied(odds, stamps, cell))
 }
 
 #[unsafe(no_mangle)]
 pub extern "C" fn tembuzar_update_ray2(
-    map: GridMap2,
+    map: CMap2,
     odds: &mut [f64],
     stamps: &mut [u32],
     beam: ScanBeam2,
@@ -49,12 +55,15 @@ pub extern "C" fn tembuzar_update_ray2(
     ensures { Told c_count (update_ray_entry binary64 (head2 map) (beam2 beam) (grid_of odds.old stamps.old))
         result (grid_of odds.new stamps.new) }
 {
-    count_to_c(ScanUpdater2 { map }.update_ray(odds, stamps, beam))
+    let sweep = ScanUpdater {
+        map: GridMap2::from(map),
+    };
+    CCountAnswer::from(sweep.update_ray(odds, stamps, beam))
 }
 
 #[unsafe(no_mangle)]
 pub extern "C" fn tembuzar_update_scan2(
-    map: GridMap2,
+    map: CMap2,
     odds: &mut [f64],
     stamps: &mut [u32],
     numbers: &[f64],
@@ -64,5 +73,8 @@ pub extern "C" fn tembuzar_update_scan2(
         (update_scan_entry binary64 (head2 map) numbers.now hits.now (grid_of odds.old stamps.old))
         result (grid_of odds.new stamps.new) }
 {
-    count_to_c(ScanUpdater2 { map }.update_scan(odds, stamps, numbers, hits))
+    let sweep = ScanUpdater {
+        map: GridMap2::from(map),
+    };
+    CCountAnswer::from(sweep.update_scan(odds, stamps, numbers, hits))
 }

@@ -6,17 +6,17 @@ ghost use Rattle.rules.specs.RefusalNumbers.Entries.{mark_entry, update_ray_entr
 ghost use Rattle.types.specs.Beams.{beam3};
 ghost use Rattle.types.specs.Points.{cell3};
 ghost use Rattle.marks.specs.Marking.{grid_of};
-ghost use Rattle.grid_map.specs.Heads.{head3};
+ghost use Rattle.c_types.specs.Heads.{head3};
 ghost use Rattle.c_types.specs.Answers.{Told, c_mark, c_count};
 
-use c_types::{CCountAnswer, CMarkAnswer, count_to_c, mark_to_c};
+use c_types::{CCountAnswer, CMap3, CMarkAnswer};
 use grid_map::GridMap3;
-use scan::ScanUpdater3;
+use scan::ScanUpdater;
 use types::{Cell3, ScanBeam3};
 
 #[unsafe(no_mangle)]
 pub extern "C" fn tembuzar_mark_free3(
-    map: GridMap3,
+    map: CMap3,
     odds: &mut [f64],
     stamps: &mut [u32],
     cell: Cell3,
@@ -24,12 +24,15 @@ pub extern "C" fn tembuzar_mark_free3(
     ensures { Told c_mark (mark_entry binary64 false (head3 map) (cell3 cell) (grid_of odds.old stamps.old))
         result (grid_of odds.new stamps.new) }
 {
-    mark_to_c(ScanUpdater3 { map }.mark_free(odds, stamps, cell))
+    let sweep = ScanUpdater {
+        map: GridMap3::from(map),
+    };
+    CMarkAnswer::from(sweep.mark_free(odds, stamps, cell))
 }
 
 #[unsafe(no_mangle)]
 pub extern "C" fn tembuzar_mark_occupied3(
-    map: GridMap3,
+    map: CMap3,
     odds: &mut [f64],
     stamps: &mut [u32],
     cell: Cell3,
@@ -37,12 +40,15 @@ pub extern "C" fn tembuzar_mark_occupied3(
     ensures { Told c_mark (mark_entry binary64 true (head3 map) (cell3 cell) (grid_of odds.old stamps.old))
         result (grid_of odds.new stamps.new) }
 {
-    mark_to_c(ScanUpdater3 { map }.mark_occupied(odds, stamps, cell))
+    let sweep = ScanUpdater {
+        map: GridMap3::from(map),
+    };
+    CMarkAnswer::from(sweep.mark_occupied(odds, stamps, cell))
 }
 
 #[unsafe(no_mangle)]
 pub extern "C" fn tembuzar_update_ray3(
-    map: GridMap3,
+    map: CMap3,
     odds: &mut [f64],
     stamps: &mut [u32],
     beam: ScanBeam3,
@@ -50,12 +56,15 @@ pub extern "C" fn tembuzar_update_ray3(
     ensures { Told c_count (update_ray_entry binary64 (head3 map) (beam3 beam) (grid_of odds.old stamps.old))
         result (grid_of odds.new stamps.new) }
 {
-    count_to_c(ScanUpdater3 { map }.update_ray(odds, stamps, beam))
+    let sweep = ScanUpdater {
+        map: GridMap3::from(map),
+    };
+    CCountAnswer::from(sweep.update_ray(odds, stamps, beam))
 }
 
 #[unsafe(no_mangle)]
 pub extern "C" fn tembuzar_update_scan3(
-    map: GridMap3,
+    map: CMap3,
     odds: &mut [f64],
     stamps: &mut [u32],
     numbers: &[f64],
@@ -65,5 +74,8 @@ pub extern "C" fn tembuzar_update_scan3(
         (update_scan_entry binary64 (head3 map) numbers.now hits.now (grid_of odds.old stamps.old))
         result (grid_of odds.new stamps.new) }
 {
-    count_to_c(ScanUpdater3 { map }.update_scan(odds, stamps, numbers, hits))
+    let sweep = ScanUpdater {
+        map: GridMap3::from(map),
+    };
+    CCountAnswer::from(sweep.update_scan(odds, stamps, numbers, hits))
 }

@@ -4,17 +4,17 @@ ghost use Rattle.std.specs.Float.{binary64};
 ghost use Rattle.rules.specs.VerticalBeam.{update_vertical_entry};
 ghost use Rattle.types.specs.Beams.{vertical};
 ghost use Rattle.marks.specs.Marking.{grid_of};
-ghost use Rattle.grid_map.specs.Heads.{head3};
+ghost use Rattle.c_types.specs.Heads.{head3};
 ghost use Rattle.c_types.specs.Answers.{Told, c_count};
 
-use c_types::{CCountAnswer, count_to_c};
+use c_types::{CCountAnswer, CMap3};
 use grid_map::GridMap3;
 use types::VerticalBeam;
 use vertical::update_vertical3;
 
 #[unsafe(no_mangle)]
 pub extern "C" fn tembuzar_update_vertical3(
-    map: GridMap3,
+    map: CMap3,
     odds: &mut [f64],
     stamps: &mut [u32],
     beam: VerticalBeam,
@@ -23,5 +23,5 @@ pub extern "C" fn tembuzar_update_vertical3(
         (update_vertical_entry binary64 (head3 map) (vertical beam) (grid_of odds.old stamps.old))
         result (grid_of odds.new stamps.new) }
 {
-    count_to_c(update_vertical3(map, odds, stamps, beam))
+    CCountAnswer::from(update_vertical3(GridMap3::from(map), odds, stamps, beam))
 }

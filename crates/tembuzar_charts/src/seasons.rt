@@ -2,21 +2,21 @@
 ghost use Rattle.rules.specs.SeasonReport.{start_report_entry, add_chart_entry, add_charts_entry, join_reports_entry};
 ghost use Rattle.c_types.specs.Answers.{Told, c_count};
 
-use c_types::{CCountAnswer, count_to_c};
+use c_types::CCountAnswer;
 use season::{add_chart, add_charts, join_reports, start_report};
 
 #[unsafe(no_mangle)]
 pub extern "C" fn tembuzar_start_report(columns: u64, report: &mut [u32]) -> CCountAnswer
     ensures { Told c_count (start_report_entry columns report.old) result report.new }
 {
-    count_to_c(start_report(columns, report))
+    CCountAnswer::from(start_report(columns, report))
 }
 
 #[unsafe(no_mangle)]
 pub extern "C" fn tembuzar_add_chart(charts: u64, report: &mut [u32], chart: &[u16]) -> CCountAnswer
     ensures { Told c_count (add_chart_entry charts report.old chart.now) result report.new }
 {
-    count_to_c(add_chart(charts, report, chart))
+    CCountAnswer::from(add_chart(charts, report, chart))
 }
 
 #[unsafe(no_mangle)]
@@ -28,7 +28,7 @@ pub extern "C" fn tembuzar_add_charts(
 ) -> CCountAnswer
     ensures { Told c_count (add_charts_entry charts report.old count run.now) result report.new }
 {
-    count_to_c(add_charts(charts, report, count, run))
+    CCountAnswer::from(add_charts(charts, report, count, run))
 }
 
 #[unsafe(no_mangle)]
@@ -40,5 +40,5 @@ pub extern "C" fn tembuzar_join_reports(
 ) -> CCountAnswer
     ensures { Told c_count (join_reports_entry charts report.old more other.now) result report.new }
 {
-    count_to_c(join_reports(charts, report, more, other))
+    CCountAnswer::from(join_reports(charts, report, more, other))
 }

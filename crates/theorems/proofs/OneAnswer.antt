@@ -7,38 +7,42 @@ pub mod Exceptions
 pub mod Examples
 pub mod Grids
 pub mod Helpers
-use Rattle.std.specs.Prelude.{ℕ, List, Float}
+use Rattle.std.specs.Prelude.{ℕ, Bool, List, Float, Result}
 use Rattle.std.proofs.Common.{sym, ap, ◌∙◌}
 use Rattle.rules.specs.RefusalNumbers.{Answer}
 use Rattle.rules.specs.RefusalNumbers.Entries.{Outcome}
 use Rattle.rules.specs.TheGridAndItsBounds.{Head, Grid}
 use Rattle.rules.specs.ManySamples.{Slots}
-use Rattle.types.specs.declared.answers.MarkAnswer.{MarkAnswer}
-use Rattle.types.specs.declared.answers.CountAnswer.{CountAnswer}
-use Rattle.types.specs.declared.answers.SweepAnswer.{SweepAnswer}
-use Rattle.types.specs.declared.answers.MoveAnswer.{MoveAnswer}
-use Rattle.types.specs.declared.answers.SetAnswer.{SetAnswer}
-use Rattle.types.specs.Answers.{set_answer, odds_answer, sample_answer2, sample_answer3, cell_answer2, cell_answer3}
+use Rattle.types.specs.declared.refusal.Refusal.{Refusal}
+use Rattle.types.specs.declared.answers.Swept.{Swept}
+use Rattle.types.specs.declared.answers.Moved.{Moved}
+use Rattle.types.specs.Answers.{moved_of, set_answer, odds_answer, sample_answer2, sample_answer3, cell_answer2, cell_answer3}
 use Rattle.bresenham.specs.Lines.{plotted2, plotted3, step2, step3}
 use Rattle.marks.specs.Marking.{grid_of}
-use Rattle.grid_map.specs.declared.map2.GridMap2.{GridMap2}
-use Rattle.grid_map.specs.declared.map3.GridMap3.{GridMap3}
-use Rattle.grid_map.specs.declared.map2.MapAnswer2.{MapAnswer2}
-use Rattle.grid_map.specs.declared.map3.MapAnswer3.{MapAnswer3}
-use Rattle.grid_map.specs.declared.map2.LoadAnswer2.{LoadAnswer2}
-use Rattle.grid_map.specs.declared.map3.LoadAnswer3.{LoadAnswer3}
-use Rattle.grid_map.specs.Heads.{head2, head3, map_outcome2, map_outcome3, load_outcome2, load_outcome3, open_outcome2, open_outcome3, set_outcome}
+use Rattle.types.specs.declared.points.Extents2.{Extents2}
+use Rattle.types.specs.declared.points.Extents3.{Extents3}
+use Rattle.types.specs.declared.model.Model.{Model}
+use Rattle.types.specs.declared.model.Bands.{Bands}
+use Rattle.grid_map.specs.declared.map.GridMap.{GridMap}
+use Rattle.grid_map.specs.declared.loaded.Loaded.{Loaded}
+use Rattle.grid_map.specs.Heads.{head2, head3, map_outcome, load_outcome, open_outcome, set_outcome}
 use Rattle.beam.specs.Applying.{mark_outcome, count_outcome}
-use Rattle.lent.specs.LentHead.{Opened, opened2, opened3}
+use Rattle.lent.specs.LentHead.{Opened, opened_as}
 use Rattle.record_writer.specs.Writing.{write_outcome}
-use Rattle.editions.specs.Moves.{move_outcome}
+use Rattle.editions.specs.Moves.{move_outcome, moved_outcome}
 use Rattle.sweep_reader.specs.Reading.{sweep_outcome}
 use Rattle.chart.specs.Charts.{chart_outcome}
 use Rattle.season.specs.Reports.{report_outcome}
 use Rattle.sample_list.specs.Slots.{slots_of, slots_outcome}
 use Rattle.c_types.specs.Answers.{Told}
+use Rattle.c_types.specs.Heads as CHeads
+use Rattle.c_types.specs.declared.heads.CMap2.{CMap2}
+use Rattle.c_types.specs.declared.heads.CMap3.{CMap3}
+use Rattle.c_types.proofs.Injective as CInjective
 use Rattle.types.proofs.Injective.{Injective}
 use Rattle.theorems.specs.OneAnswer.Law.{OneAnswer, Fixed, one_answer, pair, plain, beside, both}
+use Rattle.types.proofs.InjectiveAnswers.{answer_injective, moved_injective}
+use Rattle.theorems.proofs.OneAnswer.Helpers.{size_moved, size_moved_injective}
 use Rattle.types.proofs.InjectiveAnswers.{mark_answer_injective, count_answer_injective, sweep_answer_injective, move_answer_injective, set_answer_injective, cell_answer2_injective, cell_answer3_injective}
 use Rattle.types.proofs.InjectiveAnswers.{odds_answer_injective, sample_answer2_injective, sample_answer3_injective}
 use Rattle.bresenham.proofs.Injective.{step2_injective, step3_injective, plotted2_injective, plotted3_injective}
@@ -78,62 +82,69 @@ pub step3-one : Fixed step3
 step3-one = one_answer step3_injective
 
 -- ---- an answer beside lent lists: `count_outcome r (now odds.exit) (now stamps.exit) ≡ v`
-pub map_outcome2-one : Fixed {A = MapAnswer2 × (List Float × List ℕ)} (λ a. map_outcome2 a.0 a.1.0 a.1.1)
+pub map_outcome2-one : Fixed {A = Result (GridMap Extents2 Model) Refusal × (List Float × List ℕ)} (λ a. map_outcome head2 a.0 a.1.0 a.1.1)
 map_outcome2-one = one_answer (beside map_answer2_injective grid)
 
-pub map_outcome3-one : Fixed {A = MapAnswer3 × (List Float × List ℕ)} (λ a. map_outcome3 a.0 a.1.0 a.1.1)
+pub map_outcome3-one : Fixed {A = Result (GridMap Extents3 Bands) Refusal × (List Float × List ℕ)} (λ a. map_outcome head3 a.0 a.1.0 a.1.1)
 map_outcome3-one = one_answer (beside map_answer3_injective grid)
 
-pub load_outcome2-one : Fixed {A = LoadAnswer2 × (List Float × List ℕ)} (λ a. load_outcome2 a.0 a.1.0 a.1.1)
+pub load_outcome2-one : Fixed {A = Result (Loaded (GridMap Extents2 Model)) Refusal × (List Float × List ℕ)} (λ a. load_outcome head2 a.0 a.1.0 a.1.1)
 load_outcome2-one = one_answer (beside load_answer2_injective grid)
 
-pub load_outcome3-one : Fixed {A = LoadAnswer3 × (List Float × List ℕ)} (λ a. load_outcome3 a.0 a.1.0 a.1.1)
+pub load_outcome3-one : Fixed {A = Result (Loaded (GridMap Extents3 Bands)) Refusal × (List Float × List ℕ)} (λ a. load_outcome head3 a.0 a.1.0 a.1.1)
 load_outcome3-one = one_answer (beside load_answer3_injective grid)
 
-pub open_outcome2-one : Fixed {A = MapAnswer2 × List ℕ} (λ a. open_outcome2 a.0 a.1)
+pub open_outcome2-one : Fixed {A = Result (GridMap Extents2 Model) Refusal × List ℕ} (λ a. open_outcome head2 a.0 a.1)
 open_outcome2-one = one_answer (beside map_answer2_injective plain)
 
-pub open_outcome3-one : Fixed {A = MapAnswer3 × List ℕ} (λ a. open_outcome3 a.0 a.1)
+pub open_outcome3-one : Fixed {A = Result (GridMap Extents3 Bands) Refusal × List ℕ} (λ a. open_outcome head3 a.0 a.1)
 open_outcome3-one = one_answer (beside map_answer3_injective plain)
 
-pub set_outcome-one : Fixed {A = SetAnswer × List Float} (λ a. set_outcome a.0 a.1)
+pub set_outcome-one : Fixed {A = Result (Unit {0}) Refusal × List Float} (λ a. set_outcome a.0 a.1)
 set_outcome-one = one_answer (beside set_answer_injective plain)
 
-pub mark_outcome-one : Fixed {A = MarkAnswer × (List Float × List ℕ)} (λ a. mark_outcome a.0 a.1.0 a.1.1)
+pub mark_outcome-one : Fixed {A = Result Bool Refusal × (List Float × List ℕ)} (λ a. mark_outcome a.0 a.1.0 a.1.1)
 mark_outcome-one = one_answer (beside mark_answer_injective grid)
 
-pub count_outcome-one : Fixed {A = CountAnswer × (List Float × List ℕ)} (λ a. count_outcome a.0 a.1.0 a.1.1)
+pub count_outcome-one : Fixed {A = Result ℕ Refusal × (List Float × List ℕ)} (λ a. count_outcome a.0 a.1.0 a.1.1)
 count_outcome-one = one_answer (beside count_answer_injective grid)
 
-pub sweep_outcome-one : Fixed {A = SweepAnswer × (List Float × List ℕ)} (λ a. sweep_outcome a.0 a.1.0 a.1.1)
+pub sweep_outcome-one : Fixed {A = Result Swept Refusal × (List Float × List ℕ)} (λ a. sweep_outcome a.0 a.1.0 a.1.1)
 sweep_outcome-one = one_answer (beside sweep_answer_injective grid)
 
-pub write_outcome-one : Fixed {A = CountAnswer × List ℕ} (λ a. write_outcome a.0 a.1)
+pub write_outcome-one : Fixed {A = Result ℕ Refusal × List ℕ} (λ a. write_outcome a.0 a.1)
 write_outcome-one = one_answer (beside count_answer_injective plain)
 
-pub move_outcome-one : Fixed {A = MoveAnswer × List ℕ} (λ a. move_outcome a.0 a.1)
+pub move_outcome-one : Fixed {A = Result Moved Refusal × List ℕ} (λ a. move_outcome a.0 a.1)
 move_outcome-one = one_answer (beside move_answer_injective plain)
 
-pub chart_outcome-one : Fixed {A = SetAnswer × List ℕ} (λ a. chart_outcome a.0 a.1)
+-- of two axes the size alone is handed over, of three the cuts too
+pub moved_outcome2-one : Fixed {A = Result ℕ Refusal × List ℕ} (λ a. moved_outcome size_moved a.0 a.1)
+moved_outcome2-one = one_answer (beside (answer_injective size_moved size_moved_injective) plain)
+
+pub moved_outcome3-one : Fixed {A = Result Moved Refusal × List ℕ} (λ a. moved_outcome moved_of a.0 a.1)
+moved_outcome3-one = one_answer (beside (answer_injective moved_of moved_injective) plain)
+
+pub chart_outcome-one : Fixed {A = Result (Unit {0}) Refusal × List ℕ} (λ a. chart_outcome a.0 a.1)
 chart_outcome-one = one_answer (beside set_answer_injective plain)
 
-pub report_outcome-one : Fixed {A = CountAnswer × List ℕ} (λ a. report_outcome a.0 a.1)
+pub report_outcome-one : Fixed {A = Result ℕ Refusal × List ℕ} (λ a. report_outcome a.0 a.1)
 report_outcome-one = one_answer (beside count_answer_injective plain)
 
-pub slots_outcome-one : Fixed {A = SetAnswer × (List Float × List ℕ)} (λ a. slots_outcome a.0 a.1.0 a.1.1)
+pub slots_outcome-one : Fixed {A = Result (Unit {0}) Refusal × (List Float × List ℕ)} (λ a. slots_outcome a.0 a.1.0 a.1.1)
 slots_outcome-one = one_answer (beside set_answer_injective slots)
 
--- ---- an answer beside a lent head and its stamps: `opened2 r (now map.exit) (now stamps.exit) ≡ v`
+-- ---- an answer beside a lent head and its stamps: `opened_as head2 r map.new stamps.new ≡ v`
 opened : {M : Type 0} {head : M → Head} → Injective head
-    → Injective {A = SetAnswer × (M × List ℕ)} {B = Opened} (λ a. record { answer = set_answer a.0; head = head a.1.0; stamps = a.1.1 })
+    → Injective {A = Result (Unit {0}) Refusal × (M × List ℕ)} {B = Opened} (λ a. record { answer = set_answer a.0; head = head a.1.0; stamps = a.1.1 })
 opened one a b h =
     pair (set_answer_injective a.0 b.0 (ap (λ (o : Opened). o.answer) h))
     (pair (one a.1.0 b.1.0 (ap (λ (o : Opened). o.head) h)) (ap (λ (o : Opened). o.stamps) h))
 
-pub opened2-one : Fixed {A = SetAnswer × (GridMap2 × List ℕ)} (λ a. opened2 a.0 a.1.0 a.1.1)
+pub opened2-one : Fixed {A = Result (Unit {0}) Refusal × ((GridMap Extents2 Model) × List ℕ)} (λ a. opened_as head2 a.0 a.1.0 a.1.1)
 opened2-one = one_answer (opened head2_injective)
 
-pub opened3-one : Fixed {A = SetAnswer × (GridMap3 × List ℕ)} (λ a. opened3 a.0 a.1.0 a.1.1)
+pub opened3-one : Fixed {A = Result (Unit {0}) Refusal × ((GridMap Extents3 Bands) × List ℕ)} (λ a. opened_as head3 a.0 a.1.0 a.1.1)
 opened3-one = one_answer (opened head3_injective)
 
 -- ---- what is told to C, beside what is lent: `Told c_count v r (grid_of (now odds.exit) (now stamps.exit))`
@@ -153,9 +164,9 @@ pub Told-slots_one : {A C : Type 0} {asStruct : Answer A → C} (v : Outcome A S
 Told-slots_one = told slots
 
 pub Told-head2_one : {A C : Type 0} {asStruct : Answer A → C} (v : Outcome A (Head × List ℕ))
-    → OneAnswer (λ (a : C × (GridMap2 × List ℕ)). Told asStruct v a.0 (head2 a.1.0, a.1.1))
-Told-head2_one = told (both head2_injective plain)
+    → OneAnswer (λ (a : C × (CMap2 × List ℕ)). Told asStruct v a.0 (CHeads.head2 a.1.0, a.1.1))
+Told-head2_one = told (both CInjective.head2_injective plain)
 
 pub Told-head3_one : {A C : Type 0} {asStruct : Answer A → C} (v : Outcome A (Head × List ℕ))
-    → OneAnswer (λ (a : C × (GridMap3 × List ℕ)). Told asStruct v a.0 (head3 a.1.0, a.1.1))
-Told-head3_one = told (both head3_injective plain)
+    → OneAnswer (λ (a : C × (CMap3 × List ℕ)). Told asStruct v a.0 (CHeads.head3 a.1.0, a.1.1))
+Told-head3_one = told (both CInjective.head3_injective plain)

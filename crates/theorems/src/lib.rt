@@ -48,8 +48,8 @@ pub fn map_held3(map: GridMap3, odds: &[f64])
     ensures { Held (head3 map) odds.now }
 {
     numbers_held(odds);
-    pair_held(map.bands.low);
-    pair_held(map.bands.middle);
-    pair_held(map.bands.high);
-    number_held(map.bands.ceiling);
+    pair_held(map.model.low);
+    pair_held(map.model.middle);
+    pair_held(map.model.high);
+    number_held(map.model.ceiling);
 }

@@ -28,8 +28,7 @@ use Rattle.types.specs.declared.samples.MapSample3.{MapSample3}
 use Rattle.types.specs.declared.beams.ScanBeam2.{ScanBeam2}
 use Rattle.types.specs.declared.beams.ScanBeam3.{ScanBeam3}
 use Rattle.types.specs.declared.beams.VerticalBeam.{VerticalBeam}
-use Rattle.types.specs.declared.beams.Clipped2.{Clipped2}
-use Rattle.types.specs.declared.beams.Clipped3.{Clipped3}
+use Rattle.types.specs.declared.beams.Clipped.{Clipped}
 use Rattle.types.specs.declared.beams.RayTermination.{RayTermination}
 use Rattle.types.specs.Points.{point2, point3, vector2, vector3, cell2, cell3, extents2, extents3}
 use Rattle.types.specs.Models.{model_of, bands_of}
@@ -123,7 +122,7 @@ sample2_back s = record { value = s.value; gradient = vector2_back s.gradient }
 pub sample2_injective : Injective sample2
 sample2_injective = of_back sample2 sample2_back (λ a. refl)
 
-abbrev pub clipped2_back : Beam.Clipped → Clipped2
+abbrev pub clipped2_back : Beam.Clipped → Clipped Point2
 clipped2_back c = record { entry = point2_back c.entry; exit = point2_back c.exit; inside = c.inside }
 
 pub clipped2_injective : Injective clipped2
@@ -135,7 +134,7 @@ sample3_back s = record { value = s.value; gradient = vector3_back s.gradient }
 pub sample3_injective : Injective sample3
 sample3_injective = of_back sample3 sample3_back (λ a. refl)
 
-abbrev pub clipped3_back : Beam.Clipped → Clipped3
+abbrev pub clipped3_back : Beam.Clipped → Clipped Point3
 clipped3_back c = record { entry = point3_back c.entry; exit = point3_back c.exit; inside = c.inside }
 
 pub clipped3_injective : Injective clipped3

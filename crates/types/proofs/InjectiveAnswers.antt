@@ -2,33 +2,20 @@
 use Prim.Native.Nat.{ℕ}
 use mathlib.Core.Path.{◌≡◌, refl, ap}
 use mathlib.Core.Bool.{cond}
-use mathlib.Core.Option.{Option, some, none}
 use lib.IntN.{pos, nat_abs}
 use lib.Dec.{eqb}
 use lib.ListN.{get_or, length}
 use Rattle.rules.specs.RefusalNumbers as Paper
 use Rattle.rules.specs.RefusalNumbers.{Answer, given, refused}
-use Rattle.rules.specs.RefusalNumbers.Editions.{Moved}
-use Rattle.rules.specs.SweepFile.{Swept}
 use Rattle.types.specs.declared.refusal.Refusal as Refusal
 use Rattle.types.specs.declared.refusal.Refusal.TheVariants as R
-use Rattle.types.specs.declared.answers.MarkAnswer as MarkAnswer
-use Rattle.types.specs.declared.answers.CountAnswer as CountAnswer
-use Rattle.types.specs.declared.answers.SweepAnswer as SweepAnswer
-use Rattle.types.specs.declared.answers.MoveAnswer as MoveAnswer
-use Rattle.types.specs.declared.answers.SetAnswer as SetAnswer
-use Rattle.types.specs.declared.answers.CellRead as CellRead
-use Rattle.types.specs.declared.answers.OddsAnswer as OddsAnswer
-use Rattle.types.specs.declared.answers.SampleRead2 as SampleRead2
-use Rattle.types.specs.declared.answers.SampleRead3 as SampleRead3
-use Rattle.types.specs.declared.answers.SampleAnswer2 as SampleAnswer2
-use Rattle.types.specs.declared.answers.SampleAnswer3 as SampleAnswer3
-use Rattle.types.specs.declared.answers.CellAnswer2 as CellAnswer2
-use Rattle.types.specs.declared.answers.CellAnswer3 as CellAnswer3
+use Rattle.types.specs.Points.{cell2, cell3}
+use Rattle.types.specs.Samples.{sample2, sample3}
 use Rattle.types.specs.Refusals.{refusal_of}
-use Rattle.types.specs.Answers.{mark_answer, count_answer, sweep_answer, move_answer, set_answer, cell_read, odds_answer}
-use Rattle.types.specs.Answers.{sample_read2, sample_read3, sample_answer2, sample_answer3, cell_answer2, cell_answer3}
-use Rattle.types.proofs.Injective.{Injective, of_back, cell2_back, cell3_back, sample2_back, sample3_back}
+use Rattle.types.specs.Answers.{answer_of, found_of, mark_answer, count_answer, sweep_answer, swept_of, move_answer, moved_of, set_answer}
+use Rattle.types.specs.Answers.{cell_read, odds_answer, sample_read2, sample_read3, sample_answer2, sample_answer3, cell_answer2, cell_answer3}
+use Rattle.types.proofs.Injective.{Injective, of_back, cell2_injective, cell3_injective, sample2_injective, sample3_injective}
+use Rattle.std.specs.Prelude.{Ok, Err, Some, None}
 
 -- a refusal from its number and values; 7 has two cases, told apart by how many values it gives
 pub value : Paper.Refusal → ℕ → ℕ
@@ -87,108 +74,60 @@ refusal_there R.Chart = refl
 pub refusal_injective : Injective refusal_of
 refusal_injective = of_back refusal_of refusal_back refusal_there
 
--- the way back from an answer, by the two cases that an answer's enum has; and from what may be nothing
-abbrev pub answer_back : {A T : Type 0} → (A → T) → (Refusal.Refusal → T) → Answer A → T
-answer_back ok not-ok (given a) = ok a
-answer_back ok not-ok (refused r) = not-ok (refusal_back r)
+-- an answer's map is injective where that of what was asked for is, and so is the map of what may be missing
+pub answer_injective : {T A : Type 0} (f : T → A) → Injective f → Injective (answer_of f)
+answer_injective f i (Ok a) (Ok b) h = ap Ok (i a b (cc h))
+answer_injective f i (Ok a) (Err r) h = absurd (cc h)
+answer_injective f i (Err r) (Ok b) h = absurd (cc h)
+answer_injective f i (Err q) (Err r) h = ap Err (refusal_injective q r (cc h))
 
-abbrev pub read_back : {A T : Type 0} → (A → T) → T → Option A → T
-read_back ok nothing (some a) = ok a
-read_back ok nothing none = nothing
-
-mark_answer_there : (a : MarkAnswer.MarkAnswer) → answer_back MarkAnswer.TheVariants.Changed MarkAnswer.TheVariants.Refused (mark_answer a) ≡ a
-mark_answer_there (MarkAnswer.TheVariants.Changed b) = refl
-mark_answer_there (MarkAnswer.TheVariants.Refused r) = ap MarkAnswer.TheVariants.Refused (refusal_there r)
+pub found_injective : {T A : Type 0} (f : T → A) → Injective f → Injective (found_of f)
+found_injective f i (Some a) (Some b) h = ap Some (i a b (cc h))
+found_injective f i (Some a) None h = absurd (cc h)
+found_injective f i None (Some b) h = absurd (cc h)
+found_injective f i None None h = refl
 
 pub mark_answer_injective : Injective mark_answer
-mark_answer_injective = of_back mark_answer (answer_back MarkAnswer.TheVariants.Changed MarkAnswer.TheVariants.Refused) mark_answer_there
-
-count_answer_there : (a : CountAnswer.CountAnswer) → answer_back CountAnswer.TheVariants.Count CountAnswer.TheVariants.Refused (count_answer a) ≡ a
-count_answer_there (CountAnswer.TheVariants.Count n) = refl
-count_answer_there (CountAnswer.TheVariants.Refused r) = ap CountAnswer.TheVariants.Refused (refusal_there r)
+mark_answer_injective = answer_injective _ (λ a b h. h)
 
 pub count_answer_injective : Injective count_answer
-count_answer_injective = of_back count_answer (answer_back CountAnswer.TheVariants.Count CountAnswer.TheVariants.Refused) count_answer_there
+count_answer_injective = answer_injective _ (λ a b h. h)
 
-abbrev swept_back : Swept → SweepAnswer.SweepAnswer
-swept_back s = SweepAnswer.TheVariants.Swept s.station s.count
-
-sweep_answer_there : (a : SweepAnswer.SweepAnswer) → answer_back swept_back SweepAnswer.TheVariants.Refused (sweep_answer a) ≡ a
-sweep_answer_there (SweepAnswer.TheVariants.Swept station count) = refl
-sweep_answer_there (SweepAnswer.TheVariants.Refused r) = ap SweepAnswer.TheVariants.Refused (refusal_there r)
+pub swept_injective : Injective swept_of
+swept_injective = of_back swept_of (λ s. record { station = s.station; count = s.count }) (λ a. refl)
 
 pub sweep_answer_injective : Injective sweep_answer
-sweep_answer_injective = of_back sweep_answer (answer_back swept_back SweepAnswer.TheVariants.Refused) sweep_answer_there
+sweep_answer_injective = answer_injective swept_of swept_injective
 
-abbrev moved_back : Moved → MoveAnswer.MoveAnswer
-moved_back m = MoveAnswer.TheVariants.Moved m.size (record { first = get_or m.cuts 0 0; second = get_or m.cuts 1 0 })
-
-move_answer_there : (a : MoveAnswer.MoveAnswer) → answer_back moved_back MoveAnswer.TheVariants.Refused (move_answer a) ≡ a
-move_answer_there (MoveAnswer.TheVariants.Moved size cuts) = refl
-move_answer_there (MoveAnswer.TheVariants.Refused r) = ap MoveAnswer.TheVariants.Refused (refusal_there r)
+pub moved_injective : Injective moved_of
+moved_injective = of_back moved_of (λ m. record { size = m.size; cuts = record { first = get_or m.cuts 0 0; second = get_or m.cuts 1 0 } }) (λ a. refl)
 
 pub move_answer_injective : Injective move_answer
-move_answer_injective = of_back move_answer (answer_back moved_back MoveAnswer.TheVariants.Refused) move_answer_there
-
-set_answer_there : (a : SetAnswer.SetAnswer) → answer_back (λ (t : Unit {0}). SetAnswer.TheVariants.Done) SetAnswer.TheVariants.Refused (set_answer a) ≡ a
-set_answer_there SetAnswer.TheVariants.Done = refl
-set_answer_there (SetAnswer.TheVariants.Refused r) = ap SetAnswer.TheVariants.Refused (refusal_there r)
+move_answer_injective = answer_injective moved_of moved_injective
 
 pub set_answer_injective : Injective set_answer
-set_answer_injective = of_back set_answer (answer_back (λ (t : Unit {0}). SetAnswer.TheVariants.Done) SetAnswer.TheVariants.Refused) set_answer_there
-
-cell_answer2_there : (a : CellAnswer2.CellAnswer2) → answer_back (λ c. CellAnswer2.TheVariants.Cell (cell2_back c)) CellAnswer2.TheVariants.Refused (cell_answer2 a) ≡ a
-cell_answer2_there (CellAnswer2.TheVariants.Cell c) = refl
-cell_answer2_there (CellAnswer2.TheVariants.Refused r) = ap CellAnswer2.TheVariants.Refused (refusal_there r)
+set_answer_injective = answer_injective _ (λ a b h. refl)
 
 pub cell_answer2_injective : Injective cell_answer2
-cell_answer2_injective = of_back cell_answer2 (answer_back (λ c. CellAnswer2.TheVariants.Cell (cell2_back c)) CellAnswer2.TheVariants.Refused) cell_answer2_there
-
-cell_answer3_there : (a : CellAnswer3.CellAnswer3) → answer_back (λ c. CellAnswer3.TheVariants.Cell (cell3_back c)) CellAnswer3.TheVariants.Refused (cell_answer3 a) ≡ a
-cell_answer3_there (CellAnswer3.TheVariants.Cell c) = refl
-cell_answer3_there (CellAnswer3.TheVariants.Refused r) = ap CellAnswer3.TheVariants.Refused (refusal_there r)
+cell_answer2_injective = answer_injective cell2 cell2_injective
 
 pub cell_answer3_injective : Injective cell_answer3
-cell_answer3_injective = of_back cell_answer3 (answer_back (λ c. CellAnswer3.TheVariants.Cell (cell3_back c)) CellAnswer3.TheVariants.Refused) cell_answer3_there
-
-cell_read_there : (a : CellRead.CellRead) → read_back CellRead.TheVariants.Odds CellRead.TheVariants.Nothing (cell_read a) ≡ a
-cell_read_there (CellRead.TheVariants.Odds o) = refl
-cell_read_there CellRead.TheVariants.Nothing = refl
+cell_answer3_injective = answer_injective cell3 cell3_injective
 
 pub cell_read_injective : Injective cell_read
-cell_read_injective = of_back cell_read (read_back CellRead.TheVariants.Odds CellRead.TheVariants.Nothing) cell_read_there
-
-odds_answer_there : (a : OddsAnswer.OddsAnswer) → answer_back (λ r. OddsAnswer.TheVariants.Read (read_back CellRead.TheVariants.Odds CellRead.TheVariants.Nothing r)) OddsAnswer.TheVariants.Refused (odds_answer a) ≡ a
-odds_answer_there (OddsAnswer.TheVariants.Read r) = ap OddsAnswer.TheVariants.Read (cell_read_there r)
-odds_answer_there (OddsAnswer.TheVariants.Refused r) = ap OddsAnswer.TheVariants.Refused (refusal_there r)
+cell_read_injective = found_injective _ (λ a b h. h)
 
 pub odds_answer_injective : Injective odds_answer
-odds_answer_injective = of_back odds_answer (answer_back (λ r. OddsAnswer.TheVariants.Read (read_back CellRead.TheVariants.Odds CellRead.TheVariants.Nothing r)) OddsAnswer.TheVariants.Refused) odds_answer_there
-
-sample_read2_there : (a : SampleRead2.SampleRead2) → read_back (λ s. SampleRead2.TheVariants.Sample (sample2_back s)) SampleRead2.TheVariants.Nothing (sample_read2 a) ≡ a
-sample_read2_there (SampleRead2.TheVariants.Sample s) = refl
-sample_read2_there SampleRead2.TheVariants.Nothing = refl
+odds_answer_injective = answer_injective cell_read cell_read_injective
 
 pub sample_read2_injective : Injective sample_read2
-sample_read2_injective = of_back sample_read2 (read_back (λ s. SampleRead2.TheVariants.Sample (sample2_back s)) SampleRead2.TheVariants.Nothing) sample_read2_there
-
-sample_answer2_there : (a : SampleAnswer2.SampleAnswer2) → answer_back (λ r. SampleAnswer2.TheVariants.Read (read_back (λ s. SampleRead2.TheVariants.Sample (sample2_back s)) SampleRead2.TheVariants.Nothing r)) SampleAnswer2.TheVariants.Refused (sample_answer2 a) ≡ a
-sample_answer2_there (SampleAnswer2.TheVariants.Read r) = ap SampleAnswer2.TheVariants.Read (sample_read2_there r)
-sample_answer2_there (SampleAnswer2.TheVariants.Refused r) = ap SampleAnswer2.TheVariants.Refused (refusal_there r)
+sample_read2_injective = found_injective sample2 sample2_injective
 
 pub sample_answer2_injective : Injective sample_answer2
-sample_answer2_injective = of_back sample_answer2 (answer_back (λ r. SampleAnswer2.TheVariants.Read (read_back (λ s. SampleRead2.TheVariants.Sample (sample2_back s)) SampleRead2.TheVariants.Nothing r)) SampleAnswer2.TheVariants.Refused) sample_answer2_there
-
-sample_read3_there : (a : SampleRead3.SampleRead3) → read_back (λ s. SampleRead3.TheVariants.Sample (sample3_back s)) SampleRead3.TheVariants.Nothing (sample_read3 a) ≡ a
-sample_read3_there (SampleRead3.TheVariants.Sample s) = refl
-sample_read3_there SampleRead3.TheVariants.Nothing = refl
+sample_answer2_injective = answer_injective sample_read2 sample_read2_injective
 
 pub sample_read3_injective : Injective sample_read3
-sample_read3_injective = of_back sample_read3 (read_back (λ s. SampleRead3.TheVariants.Sample (sample3_back s)) SampleRead3.TheVariants.Nothing) sample_read3_there
-
-sample_answer3_there : (a : SampleAnswer3.SampleAnswer3) → answer_back (λ r. SampleAnswer3.TheVariants.Read (read_back (λ s. SampleRead3.TheVariants.Sample (sample3_back s)) SampleRead3.TheVariants.Nothing r)) SampleAnswer3.TheVariants.Refused (sample_answer3 a) ≡ a
-sample_answer3_there (SampleAnswer3.TheVariants.Read r) = ap SampleAnswer3.TheVariants.Read (sample_read3_there r)
-sample_answer3_there (SampleAnswer3.TheVariants.Refused r) = ap SampleAnswer3.TheVariants.Refused (refusal_there r)
+sample_read3_injective = found_injective sample3 sample3_injective
 
 pub sample_answer3_injective : Injective sample_answer3
-sample_answer3_injective = of_back sample_answer3 (answer_back (λ r. SampleAnswer3.TheVariants.Read (read_back (λ s. SampleRead3.TheVariants.Sample (sample3_back s)) SampleRead3.TheVariants.Nothing r)) SampleAnswer3.TheVariants.Refused) sample_answer3_there
+sample_answer3_injective = answer_injective sample_read3 sample_read3_injective

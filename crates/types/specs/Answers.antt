@@ -1,77 +1,79 @@
--- Each case of each entry's answer as the rules' answer: what was asked for, or the refusal with its number and values.
--- Definitions only.
-use Rattle.std.specs.Prelude.{ℕ, Bool, List, ℤ, Float}
+-- Each entry's answer as the rules' answer: what was asked for, or the refusal with its number and values. Definitions
+-- only.
+use Rattle.std.specs.Prelude.{ℕ, Bool, List, ℤ, Float, Result, Ok, Err, Some, None}
+use Rattle.std.specs.Prelude as Prelude
 use Rattle.std.proofs.Math.Option.{Option, some, none}
 use Rattle.rules.specs.RefusalNumbers.{Answer, given, refused}
 use Rattle.rules.specs.Coordinates.{Sample}
-use Rattle.rules.specs.RefusalNumbers.Editions.{Moved}
-use Rattle.rules.specs.SweepFile.{Swept}
-use Rattle.types.specs.declared.answers.MarkAnswer as MarkAnswer
-use Rattle.types.specs.declared.answers.CountAnswer as CountAnswer
-use Rattle.types.specs.declared.answers.SweepAnswer as SweepAnswer
-use Rattle.types.specs.declared.answers.MoveAnswer as MoveAnswer
-use Rattle.types.specs.declared.answers.SetAnswer as SetAnswer
-use Rattle.types.specs.declared.answers.CellRead as CellRead
-use Rattle.types.specs.declared.answers.OddsAnswer as OddsAnswer
-use Rattle.types.specs.declared.answers.SampleRead2 as SampleRead2
-use Rattle.types.specs.declared.answers.SampleRead3 as SampleRead3
-use Rattle.types.specs.declared.answers.SampleAnswer2 as SampleAnswer2
-use Rattle.types.specs.declared.answers.SampleAnswer3 as SampleAnswer3
-use Rattle.types.specs.declared.answers.CellAnswer2 as CellAnswer2
-use Rattle.types.specs.declared.answers.CellAnswer3 as CellAnswer3
+use Rattle.rules.specs.RefusalNumbers.Editions as Editions
+use Rattle.rules.specs.SweepFile as SweepFile
+use Rattle.types.specs.declared.refusal.Refusal.{Refusal}
+use Rattle.types.specs.declared.answers.Swept.{Swept}
+use Rattle.types.specs.declared.answers.Moved.{Moved}
+use Rattle.types.specs.declared.points.Cell2.{Cell2}
+use Rattle.types.specs.declared.points.Cell3.{Cell3}
+use Rattle.types.specs.declared.samples.MapSample2.{MapSample2}
+use Rattle.types.specs.declared.samples.MapSample3.{MapSample3}
 use Rattle.types.specs.Models.{cuts_of}
 use Rattle.types.specs.Points.{cell2, cell3}
 use Rattle.types.specs.Samples.{sample2, sample3}
 use Rattle.types.specs.Refusals.{refusal_of}
 
-abbrev pub mark_answer : MarkAnswer.MarkAnswer → Answer Bool
-mark_answer (MarkAnswer.TheVariants.Changed b) = given b
-mark_answer (MarkAnswer.TheVariants.Refused r) = refused (refusal_of r)
+-- by what the thing that was asked for stands for
+abbrev pub answer_of : {T A : Type 0} → (T → A) → Result T Refusal → Answer A
+answer_of f (Ok x) = given (f x)
+answer_of f (Err r) = refused (refusal_of r)
 
-abbrev pub count_answer : CountAnswer.CountAnswer → Answer ℕ
-count_answer (CountAnswer.TheVariants.Count n) = given n
-count_answer (CountAnswer.TheVariants.Refused r) = refused (refusal_of r)
+-- what may be missing
+abbrev pub found_of : {T A : Type 0} → (T → A) → Prelude.Option T → Option A
+found_of f (Some x) = some (f x)
+found_of f None = none
 
-abbrev pub sweep_answer : SweepAnswer.SweepAnswer → Answer Swept
-sweep_answer (SweepAnswer.TheVariants.Swept station count) = given (record { station = station; count = count })
-sweep_answer (SweepAnswer.TheVariants.Refused r) = refused (refusal_of r)
+abbrev pub mark_answer : Result Bool Refusal → Answer Bool
+mark_answer = answer_of (λ b. b)
 
-abbrev pub move_answer : MoveAnswer.MoveAnswer → Answer Moved
-move_answer (MoveAnswer.TheVariants.Moved size cuts) = given (record { size = size; cuts = cuts_of cuts })
-move_answer (MoveAnswer.TheVariants.Refused r) = refused (refusal_of r)
+abbrev pub count_answer : Result ℕ Refusal → Answer ℕ
+count_answer = answer_of (λ n. n)
 
-abbrev pub set_answer : SetAnswer.SetAnswer → Answer (Unit {0})
-set_answer SetAnswer.TheVariants.Done = given tt
-set_answer (SetAnswer.TheVariants.Refused r) = refused (refusal_of r)
+-- a place in the lent lists
+abbrev pub place_of : Result ℕ Refusal → Answer ℕ
+place_of = answer_of (λ n. n)
 
-abbrev pub cell_read : CellRead.CellRead → Option Float
-cell_read (CellRead.TheVariants.Odds o) = some o
-cell_read CellRead.TheVariants.Nothing = none
+abbrev pub swept_of : Swept → SweepFile.Swept
+swept_of s = record { station = s.station; count = s.count }
 
-abbrev pub odds_answer : OddsAnswer.OddsAnswer → Answer (Option Float)
-odds_answer (OddsAnswer.TheVariants.Read r) = given (cell_read r)
-odds_answer (OddsAnswer.TheVariants.Refused r) = refused (refusal_of r)
+abbrev pub sweep_answer : Result Swept Refusal → Answer SweepFile.Swept
+sweep_answer = answer_of swept_of
 
-abbrev pub sample_read2 : SampleRead2.SampleRead2 → Option Sample
-sample_read2 (SampleRead2.TheVariants.Sample s) = some (sample2 s)
-sample_read2 SampleRead2.TheVariants.Nothing = none
+abbrev pub moved_of : Moved → Editions.Moved
+moved_of m = record { size = m.size; cuts = cuts_of m.cuts }
 
-abbrev pub sample_read3 : SampleRead3.SampleRead3 → Option Sample
-sample_read3 (SampleRead3.TheVariants.Sample s) = some (sample3 s)
-sample_read3 SampleRead3.TheVariants.Nothing = none
+abbrev pub move_answer : Result Moved Refusal → Answer Editions.Moved
+move_answer = answer_of moved_of
 
-abbrev pub sample_answer2 : SampleAnswer2.SampleAnswer2 → Answer (Option Sample)
-sample_answer2 (SampleAnswer2.TheVariants.Read r) = given (sample_read2 r)
-sample_answer2 (SampleAnswer2.TheVariants.Refused r) = refused (refusal_of r)
+abbrev pub set_answer : Result (Unit {0}) Refusal → Answer (Unit {0})
+set_answer = answer_of (λ t. tt)
 
-abbrev pub sample_answer3 : SampleAnswer3.SampleAnswer3 → Answer (Option Sample)
-sample_answer3 (SampleAnswer3.TheVariants.Read r) = given (sample_read3 r)
-sample_answer3 (SampleAnswer3.TheVariants.Refused r) = refused (refusal_of r)
+abbrev pub cell_read : Prelude.Option Float → Option Float
+cell_read = found_of (λ o. o)
 
-abbrev pub cell_answer2 : CellAnswer2.CellAnswer2 → Answer (List ℤ)
-cell_answer2 (CellAnswer2.TheVariants.Cell c) = given (cell2 c)
-cell_answer2 (CellAnswer2.TheVariants.Refused r) = refused (refusal_of r)
+abbrev pub odds_answer : Result (Prelude.Option Float) Refusal → Answer (Option Float)
+odds_answer = answer_of cell_read
 
-abbrev pub cell_answer3 : CellAnswer3.CellAnswer3 → Answer (List ℤ)
-cell_answer3 (CellAnswer3.TheVariants.Cell c) = given (cell3 c)
-cell_answer3 (CellAnswer3.TheVariants.Refused r) = refused (refusal_of r)
+abbrev pub sample_read2 : Prelude.Option MapSample2 → Option Sample
+sample_read2 = found_of sample2
+
+abbrev pub sample_read3 : Prelude.Option MapSample3 → Option Sample
+sample_read3 = found_of sample3
+
+abbrev pub sample_answer2 : Result (Prelude.Option MapSample2) Refusal → Answer (Option Sample)
+sample_answer2 = answer_of sample_read2
+
+abbrev pub sample_answer3 : Result (Prelude.Option MapSample3) Refusal → Answer (Option Sample)
+sample_answer3 = answer_of sample_read3
+
+abbrev pub cell_answer2 : Result Cell2 Refusal → Answer (List ℤ)
+cell_answer2 = answer_of cell2
+
+abbrev pub cell_answer3 : Result Cell3 Refusal → Answer (List ℤ)
+cell_answer3 = answer_of cell3

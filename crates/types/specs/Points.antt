@@ -1,5 +1,8 @@
--- Points, directions, cells and extents of two and three axes as the rules' lists, axis 0 first. Definitions only.
-use Rattle.std.specs.Prelude.{ℕ, List, [], ◌∷◌, ℤ, Float}
+-- Points, directions, cells and extents of two and three axes as the rules' lists, axis 0 first. At the end, that two
+-- axes and three are few. Assumes nothing.
+use Rattle.std.specs.Prelude.{ℕ, ◌≤◌, refl, List, [], ◌∷◌, ℤ, Float}
+use Rattle.std.proofs.Math.Nat.{le_refl}
+use borrow.Author.Tests.{ltb-false}
 use Rattle.types.specs.declared.points.Point2.{Point2}
 use Rattle.types.specs.declared.points.Point3.{Point3}
 use Rattle.types.specs.declared.points.Vector2.{Vector2}
@@ -32,3 +35,9 @@ extents2 e = e.x ∷ e.y ∷ []
 
 abbrev pub extents3 : Extents3 → List ℕ
 extents3 e = e.x ∷ e.y ∷ e.z ∷ []
+
+pub two_few : 2 ≤ 3
+two_few = ltb-false 3 2 refl
+
+pub three_few : 3 ≤ 3
+three_few = le_refl 3

@@ -44,15 +44,8 @@ pub struct VerticalBeam {
 
 // A segment clipped to the map, both ends clamped to cells of it, and whether its computed end lay inside.
 #[derive(Clone, Copy)]
-pub struct Clipped2 {
-    pub entry: Point2,
-    pub exit: Point2,
-    pub inside: bool,
-}
-
-#[derive(Clone, Copy)]
-pub struct Clipped3 {
-    pub entry: Point3,
-    pub exit: Point3,
+pub struct Clipped<P> {
+    pub entry: P,
+    pub exit: P,
     pub inside: bool,
 }

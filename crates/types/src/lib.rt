@@ -5,6 +5,7 @@
 #![tactic(auto)]
 
 mod answers;
+mod axes;
 mod beams;
 mod frames;
 mod model;
@@ -12,11 +13,9 @@ mod points;
 mod refusal;
 mod samples;
 
-pub use answers::{
-    CellAnswer2, CellAnswer3, CellRead, CountAnswer, MarkAnswer, MoveAnswer, OddsAnswer,
-    SampleAnswer2, SampleAnswer3, SampleRead2, SampleRead3, SetAnswer, SweepAnswer,
-};
-pub use beams::{Clipped2, Clipped3, RayTermination, ScanBeam2, ScanBeam3, VerticalBeam};
+pub use answers::{Moved, Swept};
+pub use axes::Axes;
+pub use beams::{Clipped, RayTermination, ScanBeam2, ScanBeam3, VerticalBeam};
 pub use frames::{Frame, Stamp};
 pub use model::{Bands, Cuts, Model, Pair};
 pub use points::{Cell2, Cell3, Extents2, Extents3, Point2, Point3, Vector2, Vector3};

@@ -23,7 +23,7 @@ pub struct Pair {
 
 // The heights at which the middle and the high band begin.
 #[repr(C)]
-#[derive(Clone, Copy)]
+#[derive(Clone, Copy, Debug, PartialEq, Eq)]
 pub struct Cuts {
     pub first: u64,
     pub second: u64,

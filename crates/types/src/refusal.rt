@@ -1,7 +1,7 @@
 // Why an entry refused: a case for each line of the requirements' table and for each number of a change request.
 // `specs/Refusals.antt` gives each case's number and values.
 
-#[derive(Clone, Copy)]
+#[derive(Clone, Copy, Debug, PartialEq, Eq)]
 pub enum Refusal {
     // An axis is shorter than the two cells that a stencil needs.
     DimensionTooSmall {

@@ -1,10 +1,10 @@
 -- Marks up a column, in every format: what holds between two of them. Whatever the cells that are left do to the lists
 -- as they stand, the whole column does to the lists as they were. Assumes nothing.
-use Prim.Native.Nat.{ℕ, zero, suc, ◌+◌, ◌-◌, ◌*◌, ◌≤◌, ◌<◌}
+use Prim.Native.Nat.{ℕ, zero, suc, ◌+◌, ◌*◌, ◌≤◌, ◌<◌}
 use mathlib.Core.Bool.{Bool, true, false}
 use mathlib.Core.List.{List, [], ◌∷◌}
 use mathlib.Core.Path.{◌≡◌, refl, sym, ap, ◌∙◌, subst}
-use native.Mathlib.Nat.{zero-add, add_assoc, add-zero, one-mul, mul-one, suc-mul}
+use native.Mathlib.Nat.{zero-add, add_assoc, one-mul, suc-mul}
 use native.Mathlib.Omega.{arith}
 use lib.IntN.{pos}
 use lib.Ieee.{Float, Format}
@@ -87,11 +87,11 @@ module _ (f : Format) (h : Head) (x y : ℕ) (last : Bool) (bottom above : ℕ) 
               (subst (λ (i : ℕ). Applied f (one i false) h.model h.frame odds stamps n odds' stamps') w.place a) b));
         }
 
-    pub goes_up : (left next n : ℕ) (odds' : List Float) (stamps' : List ℕ) (w : Climbing at left count odds stamps) → 0 < left
+    pub goes_up : (left left' next n : ℕ) (odds' : List Float) (stamps' : List ℕ) (w : Climbing at left count odds stamps) → left ≡ suc left'
         → Applied f (one at false) h.model h.frame odds stamps n odds' stamps' → next ≡ column_place h.extents x y (suc w.height)
-        → Climbing next (left - 1) (count + n) odds' stamps'
-    goes_up zero next n odds' stamps' w p a e = absurd (omega arith)
-    goes_up (suc left) next n odds' stamps' w p a e =
+        → Climbing next left' (count + n) odds' stamps'
+    goes_up zero left' next n odds' stamps' w p a e = absurd (omega arith)
+    goes_up (suc left) left' next n odds' stamps' w p a e =
         subst (λ (k : ℕ). Climbing next k (count + n) odds' stamps') (omega arith) (one_up left next n odds' stamps' w a e)
 
     -- the last mark

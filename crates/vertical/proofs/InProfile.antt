@@ -1,8 +1,8 @@
 -- A vertical beam in its profile: the facts that the code's test stands for, and the places of a column's cells.
 -- Assumes nothing.
 use Prim.Native.Nat.{ℕ, ◌≤◌, ◌<◌}
-use mathlib.Core.Path.{◌≡◌, refl}
-use mathlib.Core.Bool.{Bool, true, false, ◌&&◌}
+use mathlib.Core.Path.{◌≡◌}
+use mathlib.Core.Bool.{Bool, ◌&&◌}
 use mathlib.Core.List.{List, [], ◌∷◌}
 use borrow.Author.Tests.{lt-ltb}
 use lib.IntN.{pos}
@@ -10,7 +10,7 @@ use lib.Dec.{T, eqb, ltb, leb, ltb→lt, leb→le, eqb→eq}
 use lib.ListN.{length, get_or}
 use lib.Ieee.Fits.{and_l, and_r}
 use Rattle.rules.specs.RefusalNumbers.{given}
-use Rattle.rules.specs.Coordinates.{flat_index, along, on_grid_from, off_axes, times_strides}
+use Rattle.rules.specs.Coordinates.{flat_index, along, on_grid_from}
 use Rattle.rules.specs.VerticalBeam.{Vertical, height, in_profile, column_place}
 
 -- ---- the profile, as facts

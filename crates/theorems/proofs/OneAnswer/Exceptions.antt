@@ -1,8 +1,8 @@
 -- The contracts that allow more than one answer, all of the walk by whole numbers. `followed_cell` and `cell_after` may
--- say of any coordinate that no cell is followed from it, by any number beyond every map; `follow2` and `follow3` may
--- stop after any cell, the first step among them. Each decides how much of a line is walked the fast way; `walk_drawn2`
--- and `3` above them have one answer. Assumes nothing.
-use Rattle.std.specs.Prelude.{ℕ, ◌+◌, ◌<◌, List, ◌≡◌, refl, Float, length}
+-- say of any coordinate that no cell is followed from it, by any number beyond every map, and so may what joins them
+-- axis by axis; `follow` may stop after any cell, the first step among them. Each decides how much of a line is walked
+-- the fast way; `walk_drawn` above them has one answer. Assumes nothing.
+use Rattle.std.specs.Prelude.{ℕ, ◌+◌, ◌<◌, List, ◌≡◌, refl, Float, length, IfSome, None}
 use Rattle.std.proofs.Common.{arith}
 use Rattle.std.specs.Float.{Format}
 use Rattle.rules.specs.TheGridAndItsBounds.{Head, most_extent}
@@ -10,7 +10,7 @@ use Rattle.rules.specs.TheLine.{Line}
 use Rattle.laws.specs.Checks.{Ready}
 use Rattle.laws.specs.Floats.Inside.{Followed}
 use Rattle.laws.specs.Following.{Drawn}
-use Rattle.beam.specs.Walking.{Begun}
+use Rattle.beam.specs.Walking.{Begun, FollowedTo}
 use Rattle.theorems.specs.OneAnswer.Law.{OneAnswer}
 
 -- a number beyond every map is allowed, whatever the coordinate
@@ -22,6 +22,10 @@ pub followed_not_one : (f : Format) (x : Float) → OneAnswer (λ c. Followed f 
 followed_not_one f x one =
     let same : ◌≡◌ {A = ℕ} 4_097 4_098 = one 4_097 4_098 (nothing_followed f x 4_097 (omega arith)) (nothing_followed f x 4_098 (omega arith)) in
     omega arith
+
+-- to find no place for the cells that are followed is allowed: a line is then walked step by step
+pub nothing_placed : (extents cells : List ℕ) → IfSome None (FollowedTo extents cells)
+nothing_placed extents cells = tt
 
 -- to walk no step at all is allowed
 pub nothing_walked : (f : Format) (h : Head) (line : Line) (odds : List Float) (stamps : List ℕ) → Drawn line → Ready h (length odds) (length stamps)

@@ -1,11 +1,12 @@
 -- The same of the functions under the entries: for each form that their contracts take, that it allows one answer. The
 -- exceptions are in `Exceptions`. Assumes nothing.
-use Rattle.std.specs.Prelude.{ℕ, ◌≡◌, refl, Bool, List, Float}
-use Rattle.std.proofs.Common.{sym, ap, ◌∙◌}
+use Rattle.std.specs.Prelude.{ℕ, ◌+◌, [], ◌≡◌, refl, Bool, List, Float, Result}
+use Rattle.std.proofs.Common.{arith, sym, ap, ◌∙◌}
 use Rattle.std.specs.Float.{Format}
 use Rattle.rules.specs.RefusalNumbers.{Answer, given}
 use Rattle.rules.specs.RefusalNumbers.Entries as Entries
 use Rattle.rules.specs.RefusalNumbers.Entries.{Outcome}
+use Rattle.rules.specs.RefusalNumbers.Editions as Editions
 use Rattle.rules.specs.TheGridAndItsBounds as Rules
 use Rattle.rules.specs.TheGridAndItsBounds.{pair_at}
 use Rattle.rules.specs.MarksAndFrames as Marks
@@ -16,12 +17,13 @@ use Rattle.types.specs.declared.frames.Stamp.{Stamp}
 use Rattle.types.specs.declared.model.Model.{Model}
 use Rattle.types.specs.declared.model.Bands.{Bands}
 use Rattle.types.specs.declared.points.Extents3.{Extents3}
-use Rattle.types.specs.declared.answers.CountAnswer.{CountAnswer}
-use Rattle.types.specs.declared.answers.SetAnswer.{SetAnswer}
+use Rattle.types.specs.declared.refusal.Refusal.{Refusal}
 use Rattle.types.specs.Points.{point2, point3, vector2, vector3, cell2, cell3, extents2, extents3}
 use Rattle.types.specs.Models.{model_of, bands_of}
-use Rattle.types.specs.Beams.{is_hit}
-use Rattle.types.specs.Answers.{count_answer, cell_read, sample_read2, sample_read3}
+use Rattle.types.specs.Beams.{is_hit, beam2, beam3}
+use Rattle.types.specs.Samples.{sample2, sample3}
+use Rattle.types.specs.Refusals.{refusal_of}
+use Rattle.types.specs.Answers.{answer_of, found_of, moved_of, count_answer, cell_read, sample_read2, sample_read3}
 use Rattle.checks.specs.Checking.{check_of, uses_of}
 use Rattle.places.specs.Places.{place_of}
 use Rattle.sample.specs.Stencil.{on_axis, stencilled2, stencilled3}
@@ -35,8 +37,8 @@ use Rattle.grid_map.specs.Heads.{set_outcome}
 use Rattle.beam.specs.Applying.{Applied, Beamed, integrated_of}
 use Rattle.types.proofs.Injective.{Injective, of_back}
 use Rattle.theorems.specs.OneAnswer.Law.{OneAnswer, Fixed, one_answer, pair, plain, beside}
-use Rattle.types.proofs.Injective.{point2_injective, point3_injective, vector2_injective, vector3_injective, cell2_injective, cell3_injective, extents2_injective, extents3_injective, model_injective, bands_injective, hit_back}
-use Rattle.types.proofs.InjectiveAnswers.{count_answer_injective, set_answer_injective}
+use Rattle.types.proofs.Injective.{point2_injective, point3_injective, vector2_injective, vector3_injective, cell2_injective, cell3_injective, extents2_injective, extents3_injective, model_injective, bands_injective, sample2_injective, sample3_injective, beam2_injective, beam3_injective, hit_back}
+use Rattle.types.proofs.InjectiveAnswers.{answer_injective, found_injective, moved_injective, refusal_injective, count_answer_injective, set_answer_injective}
 use Rattle.types.proofs.InjectiveAnswers.{cell_read_injective, sample_read2_injective, sample_read3_injective}
 use Rattle.bresenham.proofs.Injective.{axis_injective, primary_injective, line2_injective, line3_injective}
 use Rattle.sample.proofs.StencilLaws.{on_axis_injective, stencilled2_injective, stencilled3_injective}
@@ -71,6 +73,21 @@ extents3-one = one_answer extents3_injective
 pub model_of-one : Fixed model_of
 model_of-one = one_answer model_injective
 
+pub sample2-one : Fixed sample2
+sample2-one = one_answer sample2_injective
+
+pub sample3-one : Fixed sample3
+sample3-one = one_answer sample3_injective
+
+pub beam2-one : Fixed beam2
+beam2-one = one_answer beam2_injective
+
+pub beam3-one : Fixed beam3
+beam3-one = one_answer beam3_injective
+
+pub refusal_of-one : Fixed refusal_of
+refusal_of-one = one_answer refusal_injective
+
 pub is_hit-one : Fixed is_hit
 is_hit-one = one_answer (of_back is_hit hit_back (λ t. refl))
 
@@ -91,6 +108,17 @@ axis-one = one_answer axis_injective
 
 pub primary-one : Fixed primary
 primary-one = one_answer primary_injective
+
+pub primary_answer-one : Fixed (answer_of primary)
+primary_answer-one = one_answer (answer_injective primary primary_injective)
+
+-- a model, if there is one
+pub found_model-one : Fixed (found_of model_of)
+found_model-one = one_answer (found_injective model_of model_injective)
+
+-- the steps of a cell
+pub steps_of_cell-one : Fixed steps_of
+steps_of_cell-one = one_answer steps_of_injective
 
 pub line2-one : Fixed line2
 line2-one = one_answer line2_injective
@@ -163,12 +191,29 @@ sample_read2-one = one_answer sample_read2_injective
 pub sample_read3-one : Fixed sample_read3
 sample_read3-one = one_answer sample_read3_injective
 
-integrated : Injective {A = CountAnswer × (List Float × List ℕ)} {B = Integrated} (λ a. integrated_of a.0 a.1.0 a.1.1)
+integrated : Injective {A = Result ℕ Refusal × (List Float × List ℕ)} {B = Integrated} (λ a. integrated_of a.0 a.1.0 a.1.1)
 integrated a b h =
     pair (count_answer_injective a.0 b.0 (ap (λ (i : Integrated). i.answer) h)) (grid a.1 b.1 (ap (λ (i : Integrated). i.grid) h))
 
-pub integrated_of-one : Fixed {A = CountAnswer × (List Float × List ℕ)} (λ a. integrated_of a.0 a.1.0 a.1.1)
+pub integrated_of-one : Fixed {A = Result ℕ Refusal × (List Float × List ℕ)} (λ a. integrated_of a.0 a.1.0 a.1.1)
 integrated_of-one = one_answer integrated
+
+-- a record that was moved back to edition 1: of two axes its size alone
+abbrev pub size_moved : ℕ → Editions.Moved
+size_moved size = record { size = size; cuts = [] }
+
+pub size_moved_injective : Injective size_moved
+size_moved_injective a b h = ap (λ (m : Editions.Moved). m.size) h
+
+pub moved2-one : Fixed size_moved
+moved2-one = one_answer size_moved_injective
+
+pub moved3-one : Fixed moved_of
+moved3-one = one_answer moved_injective
+
+-- a number to which another is added
+pub added-one : (k : ℕ) → Fixed (λ (n : ℕ). n + k)
+added-one k = one_answer (λ a b h. omega arith)
 
 -- a cell set by the ceiling of whatever model has it
 model_with : Float → Rules.Model
@@ -183,7 +228,7 @@ pub list_by_ceiling_one : (c : Float) (v : Rules.Model → List Float) → OneAn
 list_by_ceiling_one = ceiling_one plain
 
 pub answer_by_ceiling_one : (c : Float) (v : Rules.Model → Outcome (Unit {0}) (List Float))
-    → OneAnswer (λ (a : SetAnswer × List Float). (m : Rules.Model) → m.ceiling ≡ c → set_outcome a.0 a.1 ≡ v m)
+    → OneAnswer (λ (a : Result (Unit {0}) Refusal × List Float). (m : Rules.Model) → m.ceiling ≡ c → set_outcome a.0 a.1 ≡ v m)
 answer_by_ceiling_one = ceiling_one (beside set_answer_injective plain)
 
 -- ---- a few equations: marks, and a beam with the room that it used up
@@ -197,7 +242,7 @@ pub Applied-one : (f : Format) (xs : List Mark) (m : Rules.Model) (frame : ℕ) 
 Applied-one f xs m frame odds stamps a b p q = pair (p.count ∙ sym q.count) (grid a.1 b.1 (p.grid ∙ sym q.grid))
 
 pub Beamed-one : (i : Integrated) (frame : ℕ) (stamps : List ℕ)
-    → OneAnswer (λ (a : CountAnswer × (List Float × List ℕ)). Beamed i frame stamps a.0 a.1.0 a.1.1)
+    → OneAnswer (λ (a : Result ℕ Refusal × (List Float × List ℕ)). Beamed i frame stamps a.0 a.1.0 a.1.1)
 Beamed-one i frame stamps a b p q = integrated_of-one i a b p.is q.is
 
 -- a fact of what is handed over, and nothing answered

@@ -17,8 +17,11 @@ use Rattle.rules.specs.MapRecord.{rows_offset, record_size, room_for}
 use Rattle.rules.specs.EditionTwo.{cuts_for, bands_over, stamp_bytes, stamps_in, none_above, pairs_bytes, cuts_of, bands_bytes, grid_bytes, edition_bytes}
 use Rattle.rules.specs.EditionTwo.{grid_of_rows, rows_and_end, edition_of, bands_size, grid_offset, edition_size, grid_tried, edition_room, edition_writable}
 use Rattle.grid_map.specs.Heads.{head2, head3}
-use Rattle.grid_map.specs.declared.map2.GridMap2.{GridMap2}
-use Rattle.grid_map.specs.declared.map3.GridMap3.{GridMap3}
+use Rattle.grid_map.specs.declared.map.GridMap.{GridMap}
+use Rattle.types.specs.declared.points.Extents2.{Extents2}
+use Rattle.types.specs.declared.points.Extents3.{Extents3}
+use Rattle.types.specs.declared.model.Model.{Model}
+use Rattle.types.specs.declared.model.Bands.{Bands}
 use Rattle.theorems.specs.MapRecord.Needs.{model, head_of, four, banded, other_pair}
 
 -- of an open sweep: stamps of frame 1, free and occupied, and 0
@@ -58,8 +61,8 @@ pub record EditionNeeds : Type 0 where
       (head_refusal (uses_of_writing true) (banded other_pair) 12 12 ≡ none)
       × (edition_writable (banded other_pair) true (record { odds = four ++ four ++ four; stamps = replicate 12 3 }) 300 ≡ given 295)
   -- Every map that a caller has meets the premise on the cuts: none on two axes, and two on three.
-  pub cuts_of_two : (m : GridMap2) → length (head2 m).model.above ≡ cuts_for 2
-  pub cuts_of_three : (m : GridMap3) → length (head3 m).model.above ≡ cuts_for 3
+  pub cuts_of_two : (m : GridMap Extents2 Model) → length (head2 m).model.above ≡ cuts_for 2
+  pub cuts_of_three : (m : GridMap Extents3 Bands) → length (head3 m).model.above ≡ cuts_for 3
   -- A stamp of frame 2, above the stored one, breaks its row, the one behind the first row of odds.
   pub stamp_too_high : edition_writable flat true (record { odds = four; stamps = 4 ∷ 0 ∷ 0 ∷ 0 ∷ [] }) 112 ≡ refused (broken_record 68)
   -- Three axes and no cuts, written or moved up: behind the first pair the second is looked for and not found.

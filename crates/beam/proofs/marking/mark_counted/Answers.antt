@@ -1,19 +1,16 @@
 -- The mark's answer is the count.
-use mathlib.Core.Path.{sym, ap}
-use mathlib.Core.Bool.{Bool, cond}
-use lib.Ieee.{binary64}
-use Rattle.types.specs.Models.{model_of}
+use Rattle.std.proofs.Common.{ℕ, Bool, cond, ◌<◌, sym, ap, ◌∙◌, subst}
 use Rattle.beam.proofs.Applying.{one_applied}
 use Rattle.beam.proofs.marking.mark_counted.Goals as goal
 
-pub returns-then-mark_place : goal.returns-then-mark_place
-returns-then-mark_place c = let a = c.args in
-    one_applied binary64 (model_of a.model) a.frame.0 a.occupied a.at a.odds.now _ a.stamps.now _ c.mark_place.result 1
-    c.requires.fact_2
-    c.mark_place.ensures (sym (ap (λ (b : Bool). cond b 1 0) c.if-mark_place.true))
+pub returns-then-mark_on : goal.returns-then-mark_on
+returns-then-mark_on g c =
+    one_applied _ _ _ c.args.occupied c.args.at _ _ _ _ c.mark_on.result 1
+    (subst (λ (k : ℕ). c.args.at < k) (c.requires.ready.odds_count ∙ sym c.requires.ready.stamps_count) c.requires.in_lists)
+    c.mark_on.ensures (sym (ap (λ (b : Bool). cond b 1 0) c.if-mark_on.true))
 
 pub returns : goal.returns
-returns c = let a = c.args in
-    one_applied binary64 (model_of a.model) a.frame.0 a.occupied a.at a.odds.now _ a.stamps.now _ c.mark_place.result 0
-    c.requires.fact_2
-    c.mark_place.ensures (sym (ap (λ (b : Bool). cond b 1 0) c.if-mark_place.false))
+returns g c =
+    one_applied _ _ _ c.args.occupied c.args.at _ _ _ _ c.mark_on.result 0
+    (subst (λ (k : ℕ). c.args.at < k) (c.requires.ready.odds_count ∙ sym c.requires.ready.stamps_count) c.requires.in_lists)
+    c.mark_on.ensures (sym (ap (λ (b : Bool). cond b 1 0) c.if-mark_on.false))

@@ -8,4 +8,4 @@ pub returns-then-moves : goal.returns-then-moves
 returns-then-moves c = subst (Followed _ _) (moves_on _ _ _ _ _ (sym c.moves.ensures ∙ c.if-moves.true)) c.cell_beside-beside.ensures
 
 pub returns : goal.returns
-returns c = λ h. subst (Followed _ _) (stands_still _ _ _ _ _ (sym c.moves.ensures ∙ c.if-moves.false)) (λ g. c.requires.fact_2) h
+returns c = λ h. subst (Followed _ _) (stands_still _ _ _ _ _ (sym c.moves.ensures ∙ c.if-moves.false)) (λ g. c.requires.inside) h

@@ -6,10 +6,10 @@ use Rattle.laws.specs.Following.{followed_up, followed_down}
 use Rattle.bresenham.proofs.following.cell_beside.Goals as goal
 
 pub returns-then-step : goal.returns-then-step
-returns-then-step c = followed_up binary64 c.args.cell c.args.current c.args.step c.requires.fact_1 c.requires.fact_2 c.requires.fact_3 (rw (← zero_is binary64) c.if-step.true)
+returns-then-step c = followed_up binary64 c.args.cell c.args.current c.args.step c.requires.on_a_map c.requires.inside c.requires.whole_step (rw (← zero_is binary64) c.if-step.true)
 
 pub returns-then-cell-eq0 : goal.returns-then-cell-eq0
 returns-then-cell-eq0 c = λ h. absurd (omega arith)
 
 pub returns : goal.returns
-returns c = followed_down binary64 c.args.cell c.args.current c.args.step c.requires.fact_1 c.requires.fact_2 c.requires.fact_3 (rw (← zero_is binary64) c.if-step.false) c.if-cell-eq0.false
+returns c = followed_down binary64 c.args.cell c.args.current c.args.step c.requires.on_a_map c.requires.inside c.requires.whole_step (rw (← zero_is binary64) c.if-step.false) c.if-cell-eq0.false

@@ -1,11 +1,7 @@
 -- From the ground up: no cell passed is NaN, so the rest decides.
-use Prim.Native.Nat.{◌-◌, ◌≤◌}
 use mathlib.Core.Path.{◌≡◌}
 use Rattle.rules.specs.LayerChart.{any_nan, cells_between}
 use Rattle.chart.proofs.columns.holds_nan.Given as goal
 
 abbrev pub invariant-loop-z : goal.invariant-loop-z
-invariant-loop-z l = (l.z ≤ l.layers) × (any_nan (cells_between l.columns l.odds l.column 0 l.layers) ≡ any_nan (cells_between l.columns l.odds l.column l.z l.layers))
-
-abbrev pub decreases-loop-z : goal.decreases-loop-z
-decreases-loop-z l = l.layers - l.z
+invariant-loop-z l = any_nan (cells_between l.columns l.odds l.column 0 l.layers) ≡ any_nan (cells_between l.columns l.odds l.column l.z l.layers)

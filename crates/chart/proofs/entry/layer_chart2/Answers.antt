@@ -1,13 +1,12 @@
 -- The check, and then 15 whatever else.
-use mathlib.Core.Path.{sym, ap, ◌∙◌}
+use Rattle.std.proofs.Common.{rules}
 use Rattle.rules.specs.LayerChart.{no_cuts_entry}
-use Rattle.checks.specs.Checking.{check_of}
 use Rattle.chart.proofs.entry.layer_chart2.Goals as goal
 
-pub returns-in-Refused : goal.returns-in-Refused
+pub returns-in_err-check : goal.returns-in_err-check
 unfolding no_cuts_entry
-returns-in-Refused c = simp (sym c.check.ensures ∙ ap check_of c.in-Refused.is)
+returns-in_err-check c = rw (← c.in_err-check.ensures) (search rules)
 
-pub returns-in-Passed : goal.returns-in-Passed
+pub returns : goal.returns
 unfolding no_cuts_entry
-returns-in-Passed c = simp (sym c.check.ensures ∙ ap check_of c.in-Passed.is)
+returns c = rw (← c.in_ok-check.ensures) (search rules)

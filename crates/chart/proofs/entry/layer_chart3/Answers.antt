@@ -1,6 +1,7 @@
 -- The head is checked, and then there is the chart; what it requires is what the check has shown.
 use mathlib.Core.Bool.{Bool, true, false, ◌&&◌}
-use mathlib.Core.Path.{◌≡◌, sym, ap, ◌∙◌}
+use mathlib.Core.Path.{◌≡◌, sym}
+use Rattle.std.proofs.Common.{rules}
 use lib.Ieee.Bits.{is_true}
 use lib.Dec.{T, ltb}
 use Rattle.rules.specs.LayerChart.{good_cuts, layer_chart_entry}
@@ -10,7 +11,6 @@ use Rattle.types.specs.Models.{bands_of}
 use Rattle.types.specs.declared.points.Extents3.{Extents3}
 use Rattle.types.specs.declared.model.Bands.{Bands}
 use Rattle.laws.specs.Checks.{passed}
-use Rattle.checks.specs.Checking.{check_of}
 use Rattle.chart.specs.Charts.{cuts_of}
 use Rattle.chart.proofs.entry.layer_chart3.Goals as goal
 
@@ -27,13 +27,13 @@ cuts-good e b t =
 
 pub chart_of-requires : goal.chart_of-requires
 chart_of-requires c = let m = c.args.map in
-    let known = passed _ _ _ _ (sym c.check.ensures ∙ ap check_of c.in-Passed.is) in
-    record { fact_1 = known.extents; fact_2 = cuts-good m.extents m.bands (known.cuts tt); fact_3 = known.odds_count tt }
+    let known = passed _ _ _ _ (sym c.in_ok-check.ensures) in
+    record { in_bounds = known.extents; cuts_good = cuts-good m.extents m.model (known.cuts tt); one_per_cell = known.odds_count tt }
 
-pub returns-in-Refused : goal.returns-in-Refused
+pub returns-in_err-check : goal.returns-in_err-check
 unfolding layer_chart_entry
-returns-in-Refused c = simp (sym c.check.ensures ∙ ap check_of c.in-Refused.is)
+returns-in_err-check c = rw (← c.in_err-check.ensures) (search rules)
 
-pub returns-in-Passed : goal.returns-in-Passed
+pub returns : goal.returns
 unfolding layer_chart_entry
-returns-in-Passed c = rw (sym c.check.ensures ∙ ap check_of c.in-Passed.is) c.chart_of.ensures
+returns c = rw (← c.in_ok-check.ensures) c.chart_of.ensures

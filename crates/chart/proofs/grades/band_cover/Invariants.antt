@@ -5,7 +5,4 @@ use Rattle.rules.specs.LayerChart.{band_cover, cells_between}
 use Rattle.chart.proofs.grades.band_cover.Given as goal
 
 abbrev pub invariant-loop-z : goal.invariant-loop-z
-invariant-loop-z l = (l.from ≤ l.z) × (l.z ≤ l.to) × (l.most ≡ band_cover l.ceiling (cells_between l.columns l.odds l.column l.z l.to))
-
-abbrev pub decreases-loop-z : goal.decreases-loop-z
-decreases-loop-z l = l.z
+invariant-loop-z l = record { above : l.from ≤ l.z; cover : l.most ≡ band_cover l.ceiling (cells_between l.columns l.odds l.column l.z l.to) }

@@ -34,7 +34,7 @@ pair-absent ceiling rest e = none_of (field_here model_tag model_length rest) (b
 pub model_field_at-model-requires : goal.model_field_at-model-requires
 model_field_at-model-requires c = let a = c.args in
     let w = whole-at model_tag model_length a.at a.bytes.now (both_l _ _ (sym c.model_sound.ensures ∙ c.if-model_sound.true)) in
-    omega arith
+    record { whole = omega arith }
 
 pub returns-then-model_sound : goal.returns-then-model_sound
 unfolding same_bits

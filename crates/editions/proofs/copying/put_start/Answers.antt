@@ -10,4 +10,4 @@ use Rattle.editions.proofs.copying.put_start.Goals as goal
 pub returns : goal.returns
 unfolding field little_endian
 returns c = let a = c.args in
-    then_run (field edition_tag (edition_two ∷ [])) (take a.frame a.bytes.now) a.out.now _ _ 0 (field_size byte_length) c.put_edition.ensures c.copy_bytes.ensures refl
+    then_run (field edition_tag (edition_two ∷ [])) (take a.size a.bytes.now) a.out.now _ _ 0 (field_size byte_length) c.put_edition.ensures c.copy_bytes.ensures refl

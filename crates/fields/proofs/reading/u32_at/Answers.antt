@@ -1,8 +1,6 @@
--- Two halves.
-use mathlib.Core.Path.{sym}
-use Rattle.fields.proofs.Bytes.{from_split}
+-- The four bytes, one by one.
+use Rattle.fields.proofs.Bytes.{from_4}
 use Rattle.fields.proofs.reading.u32_at.Goals as goal
 
 pub returns : goal.returns
-returns c = let a = c.args in
-    rw (c.u16_at-low.ensures, c.u16_at-high.ensures) (sym (from_split 2 2 a.at a.bytes.now))
+returns c = from_4 _ c.args.at c.args.bytes.now c.from_le_bytes.ensures

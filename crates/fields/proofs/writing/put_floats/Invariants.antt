@@ -1,14 +1,14 @@
--- What is left to write completes the run.
-use Prim.Native.Nat.{◌+◌, ◌*◌, ◌≤◌}
+-- The floats that are left to write complete the run.
+use Prim.Native.Nat.{◌+◌, ◌*◌}
 use mathlib.Core.Path.{◌≡◌}
-use lib.ListN.{length, take, drop}
+use lib.ListN.{length, drop}
 use lib.Seq.{sets}
 use Rattle.rules.specs.Fields.{float_bytes}
 use Rattle.fields.proofs.writing.put_floats.Given as goal
 
-abbrev pub invariant-loop-left : goal.invariant-loop-left
-invariant-loop-left l = (l.here + 8 * l.left ≤ length l.initial.out) × (l.place + l.left ≤ length l.numbers) × (length l.out ≡ length l.initial.out)
-    × (sets l.initial.out l.at (float_bytes (take l.width (drop l.from l.numbers))) ≡ sets l.out l.here (float_bytes (take l.left (drop l.place l.numbers))))
-
-abbrev pub decreases-loop-left : goal.decreases-loop-left
-decreases-loop-left l = l.left
+abbrev pub invariant-loop-x : goal.invariant-loop-x
+invariant-loop-x l = record {
+  place : l.here ≡ l.at + 8 * l.x-index;
+  kept : length l.out ≡ length l.initial.out;
+  left : sets l.initial.out l.at (float_bytes l.numbers) ≡ sets l.out l.here (float_bytes (drop l.x-index l.numbers));
+}

@@ -1,15 +1,12 @@
--- Two stores.
-use Prim.Native.Nat.{◌<◌}
-use mathlib.Core.Path.{refl}
-use native.Mathlib.Numerals.{add-one}
-use native.Mathlib.Omega.{arith}
-use lib.ListN.{length-set}
-use Rattle.fields.proofs.Bytes.{little_two}
+-- The number's bytes in the place of a part.
+use mathlib.Core.Path.{ap, ◌∙◌}
+use lib.ListN.{length}
+use lib.Seq.{sets}
+use Rattle.fields.proofs.Bytes.{length_little, little_is}
+use Rattle.fields.proofs.Stores.{put_part}
 use Rattle.fields.proofs.writing.put_u16.Goals as goal
 
-pub bounds-out-at-2 : goal.bounds-out-at-2
-bounds-out-at-2 c = simp length-set (omega arith)
-
 pub returns : goal.returns
-returns c = let small : c.args.n < 65_536 = omega arith in
-    rw (little_two c.args.n small, add-one) refl
+returns c = let a = c.args in
+    let bytes = c.copy_from_slice.ensures.after ∙ c.to_le_bytes.ensures ∙ little_is 2 a.n in
+    put_part _ a.out.now a.at 2 (ap length bytes ∙ length_little 2 a.n) c.requires ∙ ap (sets a.out.now a.at) bytes

@@ -1,16 +1,12 @@
--- Two halves.
-use Prim.Native.Nat.{◌/◌, ◌%◌}
-use mathlib.Core.Path.{sym, ap, ◌∙◌}
-use native.Mathlib.Omega.{arith}
+-- The number's bytes in the place of a part.
+use mathlib.Core.Path.{ap, ◌∙◌}
+use lib.ListN.{length}
 use lib.Seq.{sets}
-use Rattle.rules.specs.Fields.{little_endian}
-use Rattle.fields.proofs.Bytes.{length_little, little_split}
-use Rattle.fields.proofs.Stores.{two_runs}
+use Rattle.fields.proofs.Bytes.{length_little, little_is}
+use Rattle.fields.proofs.Stores.{put_part}
 use Rattle.fields.proofs.writing.put_u32.Goals as goal
 
 pub returns : goal.returns
 returns c = let a = c.args in
-    let low = little_endian 2 (a.n % 65_536) in
-    let high = little_endian 2 (a.n / 65_536) in
-    two_runs low high a.out.now _ _ a.at 2 (length_little 2 (a.n % 65_536)) c.put_u16.ensures c.put_u16-2.ensures
-    ∙ ap (sets a.out.now a.at) (sym (little_split 2 2 a.n (omega arith)))
+    let bytes = c.copy_from_slice.ensures.after ∙ c.to_le_bytes.ensures ∙ little_is 4 a.n in
+    put_part _ a.out.now a.at 4 (ap length bytes ∙ length_little 4 a.n) c.requires ∙ ap (sets a.out.now a.at) bytes

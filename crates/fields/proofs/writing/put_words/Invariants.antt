@@ -1,14 +1,14 @@
--- What is left to write completes the run.
-use Prim.Native.Nat.{◌+◌, ◌*◌, ◌≤◌}
+-- The numbers that are left to write complete the run.
+use Prim.Native.Nat.{◌+◌, ◌*◌}
 use mathlib.Core.Path.{◌≡◌}
-use lib.ListN.{length, take, drop}
+use lib.ListN.{length, drop}
 use lib.Seq.{sets}
 use Rattle.rules.specs.EditionTwo.{stamp_bytes}
 use Rattle.fields.proofs.writing.put_words.Given as goal
 
-abbrev pub invariant-loop-left : goal.invariant-loop-left
-invariant-loop-left l = (l.here + 4 * l.left ≤ length l.initial.out) × (l.place + l.left ≤ length l.numbers) × (length l.out ≡ length l.initial.out)
-    × (sets l.initial.out l.at (stamp_bytes (take l.width (drop l.from l.numbers))) ≡ sets l.out l.here (stamp_bytes (take l.left (drop l.place l.numbers))))
-
-abbrev pub decreases-loop-left : goal.decreases-loop-left
-decreases-loop-left l = l.left
+abbrev pub invariant-loop-n : goal.invariant-loop-n
+invariant-loop-n l = record {
+  place : l.here ≡ l.at + 4 * l.n-index;
+  kept : length l.out ≡ length l.initial.out;
+  left : sets l.initial.out l.at (stamp_bytes l.numbers) ≡ sets l.out l.here (stamp_bytes (drop l.n-index l.numbers));
+}

@@ -8,21 +8,21 @@ use Rattle.marks.proofs.Banding.{layer_most, cuts-most, steps_low, steps_middle,
 use Rattle.marks.proofs.bands.model_at.Goals as goal
 
 pub overflow_mul-layer : goal.overflow_mul-layer
-overflow_mul-layer c = Fits-le (layer_most _ _ _ c.requires.fact_1) (Fits-lit {n = 4096 * 4096} tt)
+overflow_mul-layer c = Fits-le (layer_most _ _ _ c.requires.in_bounds) (Fits-lit {n = 4096 * 4096} tt)
 
 pub overflow_mul-cuts : goal.overflow_mul-cuts
-overflow_mul-cuts c = Fits-le (cuts-most _ _ _ c.requires.fact_1 _ _ _ _ _ _ c.requires.fact_2).0 (Fits-lit {n = 4096 * (4096 * 4096)} tt)
+overflow_mul-cuts c = Fits-le (cuts-most _ _ _ c.requires.in_bounds _ _ _ _ _ _ c.requires.cuts).0 (Fits-lit {n = 4096 * (4096 * 4096)} tt)
 
 pub returns-then-place-cuts : goal.returns-then-place-cuts
-returns-then-place-cuts c = ap (λ (m : Model). steps_at m c.args.place) c.with.ensures ∙ steps_low _ _ _ c.requires.fact_1 _ _ _ _ _ _ c.args.place c.if-place-cuts.true
+returns-then-place-cuts c = ap (λ (m : Model). steps_at m c.args.place) c.with.ensures ∙ steps_low _ _ _ c.requires.in_bounds _ _ _ _ _ _ c.args.place c.if-place-cuts.true
 
 pub overflow_mul-cuts-2 : goal.overflow_mul-cuts-2
-overflow_mul-cuts-2 c = Fits-le (cuts-most _ _ _ c.requires.fact_1 _ _ _ _ _ _ c.requires.fact_2).1 (Fits-lit {n = 4096 * (4096 * 4096)} tt)
+overflow_mul-cuts-2 c = Fits-le (cuts-most _ _ _ c.requires.in_bounds _ _ _ _ _ _ c.requires.cuts).1 (Fits-lit {n = 4096 * (4096 * 4096)} tt)
 
 pub returns-then-place-cuts-2 : goal.returns-then-place-cuts-2
 returns-then-place-cuts-2 c = ap (λ (m : Model). steps_at m c.args.place) c.with-then-place-cuts-2.ensures
-    ∙ steps_middle _ _ _ c.requires.fact_1 _ _ _ _ _ _ c.args.place c.if-place-cuts.false c.if-place-cuts-2.true
+    ∙ steps_middle _ _ _ c.requires.in_bounds _ _ _ _ _ _ c.args.place c.if-place-cuts.false c.if-place-cuts-2.true
 
 pub returns : goal.returns
 returns c = ap (λ (m : Model). steps_at m c.args.place) c.with-2.ensures
-    ∙ steps_high _ _ _ c.requires.fact_1 _ _ _ _ _ _ c.args.place c.if-place-cuts.false c.if-place-cuts-2.false
+    ∙ steps_high _ _ _ c.requires.in_bounds _ _ _ _ _ _ c.args.place c.if-place-cuts.false c.if-place-cuts-2.false

@@ -1,37 +1,25 @@
 -- What is left to store completes the row.
+use Prim.Native.Nat.{◌+◌, ◌-◌, ◌*◌}
 use mathlib.Core.Path.{◌≡◌, refl, sym, ap, ◌∙◌}
 use native.Mathlib.Omega.{arith}
 use native.Mathlib.Numerals.{add-one}
-use lib.ListN.{length-set, drop}
+use lib.ListN.{length, drop}
 use lib.Seq.{sets}
 use Rattle.rules.specs.EditionTwo.{stamps_in}
-use Rattle.open_rows.proofs.Steps.{stamps_step}
+use Rattle.rows.proofs.Odds.{sets-whole}
+use Rattle.open_rows.proofs.Steps.{stamps_step, length-stamps}
 use Rattle.open_rows.proofs.stamps.read_stamps.Goals as goal
 
-pub loop-left-init : goal.loop-left-init
-loop-left-init c = (c.requires.fact_1, c.requires.fact_2, refl, refl)
-
-pub overflow_add-here : goal.overflow_add-here
-overflow_add-here c = let good = c.well_formed in omega arith
-
-pub overflow_add-place : goal.overflow_add-place
-overflow_add-place c = let good = c.well_formed in omega arith
-
-pub loop-left-preserved : goal.loop-left-preserved
-loop-left-preserved c = let a = c.args in
-    let l = c.loop-left in (
-      omega arith,
-      omega arith,
-      simp length-set l.invariant.2,
-      l.invariant.3 ∙ ap (sets l.stamps l.place) (stamps_step l.left l.here a.bytes.now c.loop-left-test.true) ∙ rw (c.u32_at.ensures, add-one) refl,
-    )
-
-pub shape_of-stamps : goal.shape_of-stamps
-shape_of-stamps c = c.loop-left.invariant.2
+pub loop-i-preserved : goal.loop-i-preserved
+loop-i-preserved c = let a = c.args in
+    let l = c.loop-i in
+    l.invariant ∙ ap (sets l.row l.i) (stamps_step (length a.row.now) l.i a.at a.bytes.now c.loop-i-test.true) ∙ rw (c.u32_at.ensures, add-one) refl
 
 pub returns : goal.returns
 unfolding stamps_in
 returns c = let a = c.args in
-    let l = c.loop-left in
-    let none : l.left ≡ 0 = omega arith in
-    sym (l.invariant.3 ∙ ap (λ n. sets l.stamps l.place (stamps_in n (drop l.here a.bytes.now))) none)
+    let l = c.loop-i in
+    let n = length a.row.now in
+    let none : n - l.i ≡ 0 = omega arith in
+    sym (sym (sets-whole (stamps_in n (drop a.at a.bytes.now)) a.row.now (length-stamps n _))
+    ∙ l.invariant ∙ ap (λ k. sets l.row l.i (stamps_in k (drop (a.at + 4 * l.i) a.bytes.now))) none)

@@ -7,17 +7,17 @@ use Rattle.places.proofs.index.place_within2.Goals as goal
 use Rattle.places.proofs.index.place_within2.Goals.{Start}
 
 product : (c : Start) → c.args.y * c.args.extents.x ≤ 4096 * 4096
-product c = within_products c.requires.fact_3 c.requires.fact_1.0.2.1 c.requires.fact_1.0.1
+product c = within_products c.requires.y_within c.requires.in_bounds.0.2.1 c.requires.in_bounds.0.1
 
 pub overflow_mul-result : goal.overflow_mul-result
 overflow_mul-result c = Fits-le (product (goal.at.overflow_mul-result c).Start) (Fits-lit {n = 4096 * 4096} tt)
 
 pub overflow_add-result : goal.overflow_add-result
 overflow_add-result c = let p = product (goal.at.overflow_add-result c).Start in
-    let q = c.requires.fact_2 in
-    let h = c.requires.fact_1.0.1 in
+    let q = c.requires.x_within in
+    let h = c.requires.in_bounds.0.1 in
     omega arith
 
 pub returns : goal.returns
 unfolding flat_index on_grid_from along times_strides strides strides_from
-returns c = simp (lt-ltb _ _ c.requires.fact_2, lt-ltb _ _ c.requires.fact_3, one-mul, mul-one, add-zero)
+returns c = simp (lt-ltb _ _ c.requires.x_within, lt-ltb _ _ c.requires.y_within, one-mul, mul-one, add-zero)

@@ -1,31 +1,22 @@
 -- The rows are tried first; behind rows that are passed stands the end.
-use mathlib.Core.Path.{sym, ap, ◌∙◌}
-use native.Mathlib.Omega.{arith}
-use lib.ListN.{length-drop, drop}
-use Rattle.types.specs.Models.{model_of}
-use Rattle.checks.specs.Checking.{check_of}
+use Rattle.std.proofs.Common.{rules, arith, sym, ◌∙◌}
+use lib.ListN.{length-drop}
 use Rattle.rows.proofs.Tried.{rows_room}
 use Rattle.record_reader.proofs.Taken.{rows_off, end_next}
 use Rattle.record_reader.proofs.check.rows_and_end.Goals as goal
 
 pub overflow_mul-count : goal.overflow_mul-count
-overflow_mul-count c = let a = c.args in
-    let passed = sym c.rows_check.ensures ∙ ap check_of c.in-Passed.is in
-    let room = rows_room (model_of a.model) a.width a.count a.at (drop a.at a.bytes.now) passed in
-    omega (arith, length-drop a.at a.bytes.now)
+overflow_mul-count c =
+    let room = rows_room _ _ _ _ _ (sym c.in_ok-rows_check.ensures) in
+    omega (arith, room, length-drop c.args.at c.args.bytes.now)
 
 pub overflow_add-at : goal.overflow_add-at
-overflow_add-at c = let a = c.args in
-    let passed = sym c.rows_check.ensures ∙ ap check_of c.in-Passed.is in
-    let room = rows_room (model_of a.model) a.width a.count a.at (drop a.at a.bytes.now) passed in
-    omega (arith, length-drop a.at a.bytes.now)
+overflow_add-at c =
+    let room = rows_room _ _ _ _ _ (sym c.in_ok-rows_check.ensures) in
+    omega (arith, room, length-drop c.args.at c.args.bytes.now)
 
-pub returns-in-Refused : goal.returns-in-Refused
-returns-in-Refused c = let a = c.args in
-    let off = sym (ap check_of c.in-Refused.is) ∙ c.rows_check.ensures in
-    rows_off (model_of a.model) a.width a.count a.at a.bytes.now _ off
+pub returns-in_err-rows_check : goal.returns-in_err-rows_check
+returns-in_err-rows_check c = rw (← rows_off _ _ _ _ _ _ c.in_err-rows_check.ensures) (search rules)
 
-pub returns-in-Passed : goal.returns-in-Passed
-returns-in-Passed c = let a = c.args in
-    let passed = sym (ap check_of c.in-Passed.is) ∙ c.rows_check.ensures in
-    c.end_check.ensures ∙ end_next (model_of a.model) a.width a.count a.at a.bytes.now passed
+pub returns : goal.returns
+returns c = c.end_check.ensures ∙ end_next _ _ _ _ _ c.in_ok-rows_check.ensures

@@ -5,7 +5,7 @@ use Rattle.record_writer.proofs.arranging.put_rest.Goals as goal
 
 pub returns : goal.returns
 returns c = let a = c.args in
-    let there = c.requires.fact_2 in
+    let there = c.requires.all_there in
     let model = c.put_model.ensures in
     let frame = c.put_frame.ensures in
     let rows = c.write_rows.ensures in

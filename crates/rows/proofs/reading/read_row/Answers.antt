@@ -1,37 +1,24 @@
 -- What is left to store completes the row.
+use Prim.Native.Nat.{◌+◌, ◌-◌, ◌*◌}
 use mathlib.Core.Path.{◌≡◌, refl, sym, ap, ◌∙◌}
 use native.Mathlib.Omega.{arith}
 use native.Mathlib.Numerals.{add-one}
-use lib.ListN.{length-set, drop}
+use lib.ListN.{length, drop}
 use lib.Seq.{sets}
 use Rattle.rules.specs.Fields.{floats_in}
-use Rattle.rows.proofs.Odds.{floats_step}
+use Rattle.rows.proofs.Odds.{floats_step, length_floats, sets-whole}
 use Rattle.rows.proofs.reading.read_row.Goals as goal
 
-pub loop-left-init : goal.loop-left-init
-loop-left-init c = (c.requires.fact_1, c.requires.fact_2, refl, refl)
-
-pub overflow_add-here : goal.overflow_add-here
-overflow_add-here c = let good = c.well_formed in omega arith
-
-pub overflow_add-place : goal.overflow_add-place
-overflow_add-place c = let good = c.well_formed in omega arith
-
-pub loop-left-preserved : goal.loop-left-preserved
-loop-left-preserved c = let a = c.args in
-    let l = c.loop-left in (
-      omega arith,
-      omega arith,
-      simp length-set l.invariant.2,
-      l.invariant.3 ∙ ap (sets l.odds l.place) (floats_step l.left l.here a.bytes.now c.loop-left-test.true) ∙ rw (c.f64_at.ensures, add-one) refl,
-    )
-
-pub shape_of-odds : goal.shape_of-odds
-shape_of-odds c = c.loop-left.invariant.2
+pub loop-i-preserved : goal.loop-i-preserved
+loop-i-preserved c = let a = c.args in
+    let l = c.loop-i in
+    l.invariant ∙ ap (sets l.row l.i) (floats_step (length a.row.now) l.i a.at a.bytes.now c.loop-i-test.true) ∙ rw (c.f64_at.ensures, add-one) refl
 
 pub returns : goal.returns
 unfolding floats_in
 returns c = let a = c.args in
-    let l = c.loop-left in
-    let none : l.left ≡ 0 = omega arith in
-    sym (l.invariant.3 ∙ ap (λ n. sets l.odds l.place (floats_in n (drop l.here a.bytes.now))) none)
+    let l = c.loop-i in
+    let n = length a.row.now in
+    let none : n - l.i ≡ 0 = omega arith in
+    sym (sym (sets-whole (floats_in n (drop a.at a.bytes.now)) a.row.now (length_floats n _))
+    ∙ l.invariant ∙ ap (λ k. sets l.row l.i (floats_in k (drop (a.at + 8 * l.i) a.bytes.now))) none)

@@ -20,7 +20,7 @@ overflow_cast-cell c = rw (back (goal.at.overflow_cast-cell c).After-cell_of-cel
     (rw (← c.cell_of-cell.ensures) at (cell-not-below _ (rw (zero_is binary64) at c.if-x.true)), Fits-nat_abs {w = w64} {z = c.cell_of-cell.result} tt (record { sfits = c.cell_of-cell.type_inv }))
 
 pub folded_axis-requires : goal.folded_axis-requires
-folded_axis-requires c = record { fact_1 = c.requires; fact_2 = rw (back (goal.at.folded_axis-requires c).After-cell_of-cell) (nat_abs-le c.cell_of-cell.result c.cell_of-cell.type_inv) }
+folded_axis-requires c = record { two_cells = c.requires; an_i64 = rw (back (goal.at.folded_axis-requires c).After-cell_of-cell) (nat_abs-le c.cell_of-cell.result c.cell_of-cell.type_inv) }
 
 pub returns-then-x-limit : goal.returns-then-x-limit
 unfolding number_f

@@ -1,11 +1,7 @@
 -- Night by night: the report is the first one with the nights so far.
-use Prim.Native.Nat.{◌-◌, ◌≤◌}
 use mathlib.Core.Path.{◌≡◌}
 use Rattle.rules.specs.SeasonReport.{plus, run_report}
 use Rattle.season.proofs.adding.add_run.Given as goal
 
 abbrev pub invariant-loop-n : goal.invariant-loop-n
-invariant-loop-n l = (l.n ≤ l.count) × (l.report ≡ plus l.initial.report (run_report l.columns l.n l.run))
-
-abbrev pub decreases-loop-n : goal.decreases-loop-n
-decreases-loop-n l = l.count - l.n
+invariant-loop-n l = l.report ≡ plus l.initial.report (run_report l.columns l.n l.run)

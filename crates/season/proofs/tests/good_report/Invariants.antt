@@ -1,11 +1,7 @@
 -- From the last column to the first: those passed are good, so the rest decides.
-use Prim.Native.Nat.{◌≤◌}
 use mathlib.Core.Path.{◌≡◌}
 use Rattle.rules.specs.SeasonReport.{good_report}
 use Rattle.season.proofs.tests.good_report.Given as goal
 
 abbrev pub invariant-loop-n : goal.invariant-loop-n
-invariant-loop-n l = (l.n ≤ l.columns) × (good_report l.charts l.report l.columns ≡ good_report l.charts l.report l.n)
-
-abbrev pub decreases-loop-n : goal.decreases-loop-n
-decreases-loop-n l = l.n
+invariant-loop-n l = good_report l.charts l.report l.columns ≡ good_report l.charts l.report l.n

@@ -1,5 +1,4 @@
 -- In the profile nothing wraps, and the smaller of the top and the highest height is the one that the test chooses.
-use mathlib.Core.Bool.{true}
 use native.Mathlib.Omega.{arith}
 use Rattle.rules.specs.VerticalBeam.{cells_above}
 use Rattle.vertical.proofs.Climbing.{inside}

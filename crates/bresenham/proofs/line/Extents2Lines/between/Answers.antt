@@ -1,0 +1,9 @@
+-- Field by field what the calls ensure.
+use lib.Ieee.{binary64}
+use Rattle.rules.specs.TheLine.{line_between, axes_of}
+use Rattle.laws.specs.Literals.{threshold2_is}
+use Rattle.bresenham.proofs.line.Extents2Lines.between.Goals as goal
+
+pub returns : goal.returns
+unfolding line_between axes_of
+returns c = simp (c.axis_of.ensures, c.axis_of-2.ensures, c.cells_yielded.ensures, threshold2_is binary64)

@@ -1,7 +1,0 @@
--- Axis by axis.
-use Rattle.rules.specs.OneBeam.{clamp_point}
-use Rattle.clip.proofs.clip.clamp_to_addressable_cell3.Goals as goal
-
-pub returns : goal.returns
-unfolding clamp_point
-returns c = simp (c.clamp_axis-x.ensures, c.clamp_axis-y.ensures, c.clamp_axis-z.ensures)

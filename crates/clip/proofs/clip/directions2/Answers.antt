@@ -1,8 +1,0 @@
--- Axis by axis.
-use Rattle.std.proofs.Common.{refl}
-use Rattle.rules.specs.OneBeam.{directions}
-use Rattle.clip.proofs.clip.directions2.Goals as goal
-
-pub returns : goal.returns
-unfolding directions
-returns c = refl

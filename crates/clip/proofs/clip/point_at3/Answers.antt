@@ -1,7 +1,0 @@
--- Axis by axis.
-use Rattle.rules.specs.OneBeam.{point_at}
-use Rattle.clip.proofs.clip.point_at3.Goals as goal
-
-pub returns : goal.returns
-unfolding point_at
-returns c = simp (c.point_on-at_x.ensures, c.point_on-at_y.ensures, c.point_on-at_z.ensures)

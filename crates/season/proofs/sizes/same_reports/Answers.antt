@@ -1,9 +1,0 @@
--- The tests are the rule's.
-use mathlib.Core.Path.{refl, sym, ◌∙◌}
-use Rattle.season.proofs.sizes.same_reports.Goals as goal
-
-pub returns-then-is_report : goal.returns-then-is_report
-returns-then-is_report c = rw (sym c.is_report.ensures ∙ c.if-is_report.true) refl
-
-pub returns : goal.returns
-returns c = rw (sym c.is_report.ensures ∙ c.if-is_report.false) refl
