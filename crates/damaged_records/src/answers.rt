@@ -1,119 +1,78 @@
-// What reading a record of edition 2 answers, as one number. Before each reading the lent lists hold 9 throughout.
-// Where it is refused they have to hold 9 still; where it is read, the map written again has to give the bytes that
-// were read.
-use crate::page::{all_odds_are_nine, all_stamps_are_nine, number, text};
-use edition_reader::{read_edition2_record2, read_edition2_record3};
-use edition_writer::{write_edition2_record2, write_edition2_record3};
-use grid_map::{LoadAnswer2, LoadAnswer3};
-use std::io;
-use types::{CountAnswer, Refusal};
+// What reading a record of edition 2 answers. Before each reading the lent lists hold 9 throughout. Where it is refused
+// they have to hold 9 still; where it is read, the map written again has to give the bytes that were read.
+ghost use Rattle.std.specs.Prelude.{◌≤◌};
 
-const CLOSED: u64 = 0;
+use crate::lists::Lists;
+use crate::record::ROOM;
+use edition_reader::{Loads, read_edition2_record};
+use edition_writer::{Stores, write_edition2_record};
+use grid_map::Loaded;
+use std::fmt;
+use types::{Extents2, Extents3, Refusal};
 
-const OPEN: u64 = 1;
-
-const OTHER_BYTES: u64 = 2;
-
-const OTHER_REFUSAL: u64 = 3;
-
-const LISTS_CHANGED: u64 = 4;
-
-// 10 at this offset is this number and the offset.
-const BROKEN: u64 = 10;
-
-fn same_bytes(bytes: &[u8], out: &[u8]) -> bool {
-    if bytes.len() > out.len() {
-        return false;
-    }
-    for i in 0..bytes.len() {
-        if bytes[i] != out[i] {
-            return false;
-        }
-    }
-    true
+#[derive(Clone, Copy, PartialEq, Eq)]
+pub enum Answer {
+    Closed,
+    Open,
+    OtherBytes,
+    OtherRefusal,
+    ListsChanged,
+    // 10 at this offset
+    Broken { offset: u64 },
 }
 
-fn of_read(written: CountAnswer, running: bool, bytes: &[u8], out: &[u8]) -> u64 {
-    let CountAnswer::Count(n) = written else {
-        return OTHER_BYTES;
-    };
-    if bytes.len() as u64 != n {
-        return OTHER_BYTES;
-    }
-    if !same_bytes(bytes, out) {
-        return OTHER_BYTES;
-    }
-    if running {
-        return OPEN;
-    }
-    CLOSED
-}
-
-fn of_refused(r: Refusal, odds: &[f64], stamps: &[u32]) -> u64 {
-    if !all_odds_are_nine(odds) {
-        return LISTS_CHANGED;
-    }
-    if !all_stamps_are_nine(stamps) {
-        return LISTS_CHANGED;
-    }
-    let Refusal::Record { offset } = r else {
-        return OTHER_REFUSAL;
-    };
-    if offset > 1_000 {
-        return OTHER_REFUSAL;
-    }
-    BROKEN + offset
-}
-
-fn answer2(bytes: &[u8]) -> u64 {
-    let mut odds = [9.0f64; 4];
-    let mut stamps = [9u32; 4];
-    match read_edition2_record2(bytes, &mut odds, &mut stamps) {
-        LoadAnswer2::Refused(r) => of_refused(r, &odds, &stamps),
-        LoadAnswer2::Record { map, running } => {
-            let mut out = [0u8; 112];
-            let written = write_edition2_record2(map, running, &odds, &stamps, &mut out);
-            of_read(written, running, bytes, &out)
+impl fmt::Display for Answer {
+    fn fmt<W: fmt::Write>(&self, f: &mut fmt::Formatter<W>) -> fmt::Result {
+        match self {
+            Answer::Closed => write!(f, "closed"),
+            Answer::Open => write!(f, "open"),
+            Answer::OtherBytes => write!(f, "OTHER BYTES"),
+            Answer::OtherRefusal => write!(f, "OTHER REFUSAL"),
+            Answer::ListsChanged => write!(f, "LISTS CHANGED"),
+            Answer::Broken { offset } => write!(f, "broken at {offset}"),
         }
     }
 }
 
-fn answer3(bytes: &[u8]) -> u64 {
-    let mut odds = [9.0f64; 12];
-    let mut stamps = [9u32; 12];
-    match read_edition2_record3(bytes, &mut odds, &mut stamps) {
-        LoadAnswer3::Refused(r) => of_refused(r, &odds, &stamps),
-        LoadAnswer3::Record { map, running } => {
-            let mut out = [0u8; 295];
-            let written = write_edition2_record3(map, running, &odds, &stamps, &mut out);
-            of_read(written, running, bytes, &out)
+// A reader of so many axes, to which lists of the size of its map are lent.
+pub trait Reader: Loads + Stores {
+    fn answer(bytes: &[u8]) -> Answer;
+}
+
+impl Reader for Extents2 {
+    fn answer(bytes: &[u8]) -> Answer {
+        read::<Extents2, 4>(bytes)
+    }
+}
+
+impl Reader for Extents3 {
+    fn answer(bytes: &[u8]) -> Answer {
+        read::<Extents3, 12>(bytes)
+    }
+}
+
+fn read<E: Loads + Stores, const CELLS: usize>(bytes: &[u8]) -> Answer
+    requires few { CELLS ≤ 12 }
+{
+    let mut lists = Lists::<CELLS>::nines();
+    match read_edition2_record::<E>(bytes, &mut lists.odds, &mut lists.stamps) {
+        Ok(Loaded { map, running }) => {
+            let mut out = [0u8; ROOM];
+            let size = write_edition2_record(map, running, &lists.odds, &lists.stamps, &mut out);
+            of_read(size, running, bytes, &out)
         }
+        Err(_) if !lists.are_nines() => Answer::ListsChanged,
+        Err(Refusal::Record { offset }) => Answer::Broken { offset },
+        Err(_) => Answer::OtherRefusal,
     }
 }
 
-// By the reader of so many axes, 2 or 3.
-pub fn answer(axes: u64, bytes: &[u8]) -> u64 {
-    if axes == 3 {
-        return answer3(bytes);
+fn of_read(size: Result<u64, Refusal>, running: bool, bytes: &[u8], out: &[u8]) -> Answer {
+    if size != Ok(bytes.len() as u64) || out.get(..bytes.len()) != Some(bytes) {
+        Answer::OtherBytes
+    } else if running {
+        Answer::Open
+    } else {
+        Answer::Closed
     }
-    answer2(bytes)
-}
-
-pub fn say(rt: &impl Print, answer: u64) -> io::Result<()> {
-    match answer {
-        CLOSED => text(rt, "closed"),
-        OPEN => text(rt, "open"),
-        OTHER_BYTES => text(rt, "OTHER BYTES"),
-        OTHER_REFUSAL => text(rt, "OTHER REFUSAL"),
-        LISTS_CHANGED => text(rt, "LISTS CHANGED"),
-        _ => broken(rt, answer),
-    }
-}
-
-fn broken(rt: &impl Print, answer: u64) -> io::Result<()> {
-    text(rt, "broken at ")?;
-    if answer >= BROKEN {
-        number(rt, answer - BROKEN)?;
-    }
-    Ok(())
 }

@@ -1,124 +1,83 @@
 // The cells of a map before and after a question. The list says how many cells changed, which, and to what. As many
-// have to have changed; and written into a copy from before, they have to make it the map as it is after: so every cell
+// have to have changed; and written into the cells from before, they have to make them the cells after: so every cell
 // that the list does not name is as it was.
-use crate::expecting::{expect_number, expect_text, same};
-use crate::reading::{Cursor, agreed, float, number, small, spoiled};
-use std::num::wrapping_add_u64;
+use crate::words::{Word, Words};
+use types::Frame;
 
-pub(crate) fn copy_odds(from: &[f64], to: &mut [f64]) {
-    let mut i = 0;
-    while i < from.len() {
-        if i >= to.len() {
-            return;
+// The most cells that a map of the list may have.
+pub const MOST: usize = 256;
+
+// The lists that are lent to the entries: room for the most cells, of which the first are the map's.
+#[derive(Clone, Copy)]
+pub struct Cells {
+    odds: [f64; MOST],
+    stamps: [u32; MOST],
+    count: usize,
+}
+
+impl Cells {
+    pub fn new() -> Cells {
+        Cells {
+            odds: [0.0; MOST],
+            stamps: [0; MOST],
+            count: 0,
         }
-        to[i] = from[i];
-        i += 1;
     }
-}
 
-pub(crate) fn copy_stamps(from: &[u32], to: &mut [u32]) {
-    let mut i = 0;
-    while i < from.len() {
-        if i >= to.len() {
-            return;
+    // Those of another map. They hold what stood in their places before.
+    pub fn resize(&mut self, count: usize) {
+        self.count = count.min(MOST);
+    }
+
+    pub fn lists(&mut self) -> (&mut [f64], &mut [u32]) {
+        let Cells {
+            odds,
+            stamps,
+            count,
+        } = self;
+        let count = (*count).min(MOST);
+        (&mut odds[..count], &mut stamps[..count])
+    }
+
+    pub fn odds(&mut self) -> &mut [f64] {
+        self.lists().0
+    }
+
+    pub fn stamps(&mut self) -> &mut [u32] {
+        self.lists().1
+    }
+
+    // How many are not as before.
+    fn changed(&self, before: &Cells) -> u64 {
+        let odds = self.odds.iter().zip(&before.odds).map(|(x, y)| x.same(*y));
+        let stamps = self.stamps.iter().zip(&before.stamps).map(|(n, m)| n == m);
+        odds.zip(stamps)
+            .take(self.count)
+            .filter(|same| *same != (true, true))
+            .count() as u64
+    }
+
+    // One changed cell: FLAT ODDS STAMP.
+    fn read_change(&mut self, words: &mut Words) {
+        let at: u64 = words.read();
+        let (x, stamp) = (words.read(), words.read());
+        let (odds, stamps) = self.lists();
+        match odds.iter_mut().zip(stamps).nth(at as usize) {
+            Some(cell) => (*cell.0, *cell.1) = (x, stamp),
+            None => words.spoil(),
         }
-        to[i] = from[i];
-        i += 1;
     }
-}
 
-// 1 if a cell is not as in the copy, else 0.
-fn differing_cell(
-    odds: &[f64],
-    stamps: &[u32],
-    copied_odds: &[f64],
-    copied_stamps: &[u32],
-    i: usize,
-) -> u64 {
-    if i >= odds.len() {
-        return 1;
-    }
-    if i >= stamps.len() {
-        return 1;
-    }
-    if i >= copied_odds.len() {
-        return 1;
-    }
-    if i >= copied_stamps.len() {
-        return 1;
-    }
-    if stamps[i] != copied_stamps[i] {
-        return 1;
-    }
-    if same(odds[i], copied_odds[i]) {
-        return 0;
-    }
-    1
-}
-
-// How many cells of the map are not as in the copy, which may have more.
-fn differing_cells(
-    odds: &[f64],
-    stamps: &[u32],
-    copied_odds: &[f64],
-    copied_stamps: &[u32],
-) -> u64 {
-    let mut n: u64 = 0;
-    let mut i = 0;
-    while i < odds.len() {
-        n = wrapping_add_u64(
-            n,
-            differing_cell(odds, stamps, copied_odds, copied_stamps, i),
-        );
-        i += 1;
-    }
-    n
-}
-
-// One changed cell: FLAT ODDS STAMP.
-fn change(line: &[u8], c: Cursor, odds: &mut [f64], stamps: &mut [u32]) -> Cursor {
-    let flat = number(line, c);
-    let x = float(line, flat.rest);
-    let stamp = small(line, x.rest);
-    let at = flat.value as usize;
-    if at >= odds.len() {
-        return spoiled(c);
-    }
-    if at >= stamps.len() {
-        return spoiled(c);
-    }
-    odds[at] = x.value;
-    stamps[at] = stamp.value;
-    stamp.rest
-}
-
-fn changes(line: &[u8], c: Cursor, count: u64, odds: &mut [f64], stamps: &mut [u32]) -> Cursor {
-    let mut rest = c;
-    let mut i = 0;
-    while i < count {
-        if !rest.good {
-            return rest;
+    // frame FRAME changed K, and K changed cells: as many as changed.
+    pub fn expect_changes(&self, mut before: Cells, frame: Frame, words: &mut Words) {
+        let changed = self.changed(&before);
+        words.expect_text("frame");
+        words.expect(frame.0);
+        words.expect_text("changed");
+        words.expect(changed);
+        for _ in 0..changed {
+            before.read_change(words);
         }
-        rest = change(line, rest, odds, stamps);
-        i += 1;
+        words.require(self.changed(&before) == 0);
     }
-    rest
-}
-
-// frame FRAME changed K, and K changed cells: as many as changed.
-pub(crate) fn expect_cells(
-    line: &[u8],
-    c: Cursor,
-    frame: u64,
-    odds: &[f64],
-    stamps: &[u32],
-    copied_odds: &mut [f64],
-    copied_stamps: &mut [u32],
-) -> Cursor {
-    let framed = expect_number(line, expect_text(line, c, b"frame"), frame);
-    let changed = differing_cells(odds, stamps, copied_odds, copied_stamps);
-    let counted = expect_number(line, expect_text(line, framed, b"changed"), changed);
-    let rest = changes(line, counted, changed, copied_odds, copied_stamps);
-    let left = differing_cells(odds, stamps, copied_odds, copied_stamps);
-    agreed(rest, left == 0)
 }

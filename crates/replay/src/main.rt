@@ -4,27 +4,23 @@
 // ends with an error.
 #![tactic(auto)]
 
-use crate::kinds::KINDS;
-use crate::page::page;
 use crate::pieces::replay;
 use std::io;
 
-mod beams;
+mod answers;
+mod axes;
 mod cells;
 mod changing;
-mod dispatch;
-mod expecting;
 mod kinds;
 mod lines;
+mod list;
 mod looking;
-mod maps;
-mod page;
 mod pieces;
-mod reading;
+mod structs;
+mod tally;
+mod words;
 
 fn main(rt: HostRuntime) -> io::Result<()> {
-    let mut asked = [0u64; KINDS];
-    let mut differing = [0u64; KINDS];
-    let first = replay(&rt, &mut asked, &mut differing)?;
-    page(&rt, &asked, &differing, first)
+    let tally = replay(&rt)?;
+    tally.print(&rt)
 }

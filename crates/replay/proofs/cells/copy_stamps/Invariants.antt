@@ -1,6 +1,0 @@
--- The places left fall with each turn.
-use Rattle.std.proofs.Common.{◌-◌, length}
-use Rattle.replay.proofs.cells.copy_stamps.Given as goal
-
-abbrev pub decreases-loop-i : goal.decreases-loop-i
-decreases-loop-i l = length l.from - l.i

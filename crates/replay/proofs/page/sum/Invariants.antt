@@ -1,6 +1,0 @@
--- The kinds left fall with each turn.
-use Rattle.std.proofs.Common.{◌-◌}
-use Rattle.replay.proofs.page.sum.Given as goal
-
-abbrev pub decreases-loop-i : goal.decreases-loop-i
-decreases-loop-i l = l.kinds - l.i
