@@ -195,8 +195,12 @@ static void lent_forms_of_two_axes(void)
     tembuzar_refusal r = tembuzar_open_scan2(&map, stamps, CELLS);
     printf("open_scan    number %u, %lu by %lu, model %g %g %g, frame %u [0, 5 by 4, 0.75 -0.5 4, 2]\n", r.number,
            map.extents.x, map.extents.y, map.model.occupied, map.model.free, map.model.ceiling, map.frame);
+    unsigned char was[sizeof map];
+    memset((unsigned char *)(&map + 1) - 4, 0xaa, 4); /* the bytes behind the frame, which are none of a field */
+    memcpy(was, &map, sizeof map);
     r = tembuzar_open_scan2(&map, stamps, CELLS - 1);
-    printf("open_scan    number %u, frame %u [4, 2]\n", r.number, map.frame);
+    printf("open_scan    number %u, frame %u, head %s [4, 2, as it was]\n", r.number, map.frame,
+           memcmp(was, &map, sizeof map) == 0 ? "as it was" : "changed");
     const tembuzar_beam2 beams[] = {
         {.origin = {4.5, 3.5}, .endpoint = {2.25, 3.25}, .hit = true},
         {.origin = {0.5, 0.5}, .endpoint = {3.5, 0.5}, .hit = false},
@@ -420,8 +424,12 @@ static void lent_forms_of_three_axes(void)
     printf("open_scan    number %u, %lu by %lu by %lu, model %g %g %g, frame %u [0, 5 by 4 by 3, 0.75 -0.5 4, 2]\n",
            r.number, map.extents.x, map.extents.y, map.extents.z,
            map.bands.low.occupied, map.bands.low.free, map.bands.ceiling, map.frame);
+    unsigned char was[sizeof map];
+    memset((unsigned char *)(&map + 1) - 4, 0xaa, 4); /* the bytes behind the frame, which are none of a field */
+    memcpy(was, &map, sizeof map);
     r = tembuzar_open_scan3(&map, stamps, CELLS - 1);
-    printf("open_scan    number %u, frame %u [4, 2]\n", r.number, map.frame);
+    printf("open_scan    number %u, frame %u, head %s [4, 2, as it was]\n", r.number, map.frame,
+           memcmp(was, &map, sizeof map) == 0 ? "as it was" : "changed");
     const tembuzar_beam3 beams[] = {
         {.origin = {4.5, 3.5, 2.5}, .endpoint = {2.25, 3.25, 2.75}, .hit = true},
         {.origin = {0.5, 0.5, 1.5}, .endpoint = {3.5, 0.5, 1.5}, .hit = false},

@@ -3,7 +3,7 @@
 use Prim.Native.Nat.{ℕ}
 use mathlib.Core.List.{List}
 use mathlib.Core.Option.{Option, some, none}
-use mathlib.Core.Path.{◌≡◌, sym, ap, ◌∙◌}
+use mathlib.Core.Path.{◌≡◌, refl, sym, ap, ◌∙◌}
 use lib.ListN.{length}
 use Rattle.rules.specs.RefusalNumbers.{Refusal, Answer, given, refused}
 use Rattle.rules.specs.RefusalNumbers.Entries.{Outcome, unless_refused, head_refusal, uses_of, begin_scan, begin_scan_entry}
@@ -36,3 +36,14 @@ pub advanced : (h m : Head) (stamps after : List ℕ) → ◌≡◌ {A = Outcome
     → ◌≡◌ {A = Opened} (record { answer = given tt; head = with_frame h m.frame; stamps = after }) (left_in h (begin_scan_entry h stamps))
 advanced h m stamps after e =
     ap (λ (x : Head). record { answer = given tt; head = x; stamps = after }) (sym (frame-alone h m stamps after e)) ∙ ap (left_in h) e
+
+-- and a head elsewhere that takes over the frame that was left, and nothing else, is the one that was left
+pub taken_over : (h : Head) (stamps : List ℕ) (o : Opened) → o ≡ left_in h (begin_scan_entry h stamps) → o.head ≡ with_frame h o.head.frame
+unfolding begin_scan_entry
+taken_over h stamps o e = ap (λ (x : Opened). x.head) e ∙ go (head_refusal (uses_of begin_scan) h 0 (length stamps)) ∙ ap (λ (x : Opened). with_frame h x.head.frame) (sym e)
+  where
+    go : (x : Option Refusal)
+        → (left_in h (unless_refused {A = Head} x stamps (record { answer = given (with_frame h (opened_frame h.frame)); lent = opened_stamps h.frame stamps }))).head
+        ≡ with_frame h (left_in h (unless_refused {A = Head} x stamps (record { answer = given (with_frame h (opened_frame h.frame)); lent = opened_stamps h.frame stamps }))).head.frame
+    go (some r) = refl
+    go none = refl

@@ -35,6 +35,9 @@ pub extern "C" fn tembuzar_open_scan2(map: &mut CMap2, stamps: &mut [u32]) -> CR
 {
     let mut head = GridMap2::from(*map);
     let answer = begin_scan(&mut head, stamps);
-    *map = CMap2::from(head);
+    if answer.is_err() {
+        return CRefusal::from(answer);
+    }
+    map.frame = head.frame;
     CRefusal::from(answer)
 }

@@ -35,6 +35,9 @@ pub extern "C" fn tembuzar_open_scan3(map: &mut CMap3, stamps: &mut [u32]) -> CR
 {
     let mut head = GridMap3::from(*map);
     let answer = begin_scan(&mut head, stamps);
-    *map = CMap3::from(head);
+    if answer.is_err() {
+        return CRefusal::from(answer);
+    }
+    map.frame = head.frame;
     CRefusal::from(answer)
 }
