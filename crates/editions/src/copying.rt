@@ -8,13 +8,16 @@ ghost use Rattle.rules.specs.EditionTwo.{byte_length, edition_tag, edition_two, 
 use edition_writer::{put_edition, put_mark};
 use fields::{BYTE_SIZE, FRAME_SIZE};
 
-// So many bytes of a list, from a place on. They are the list's, and there is room for them.
+// So many bytes of a list, from a place on. They are the list's, and there is room for them. Byte by byte: the library
+// for C asks for no `memmove`, which std's method needs.
 fn copy_bytes(out: &mut [u8], at: usize, bytes: &[u8], from: usize, count: usize)
     requires room { at + count ≤ length out.old }
     requires all_there { from + count ≤ length bytes.now }
     ensures { out.new ≡ sets out.old at (take count (drop from bytes.now)) }
 {
-    out[at..at + count].copy_from_slice(&bytes[from..from + count]);
+    for i in 0..count {
+        out[at + i] = bytes[from + i];
+    }
 }
 
 // The edition, and an edition 1 record's first fields, so many bytes. There is room for them.
