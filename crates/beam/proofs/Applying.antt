@@ -9,7 +9,7 @@ use lib.ListN.{length, get_or, set}
 use Rattle.rules.specs.RefusalNumbers.{given}
 use Rattle.rules.specs.RefusalNumbers.Entries.{Outcome}
 use Rattle.rules.specs.TheGridAndItsBounds.{Model, Grid}
-use Rattle.rules.specs.MarksAndFrames.{Mark, mark_at, with_cell, marked, changes, steps_at}
+use Rattle.rules.specs.MarksAndFrames.{Mark, Steps, mark_at, with_cell, marked, changes, steps_at}
 use Rattle.beam.proofs.MarkLists.{marked_append, changes_append}
 use Rattle.laws.specs.Room.{room, room-set, mark_lowers}
 use Rattle.marks.specs.Marking.{grid_of, mark_on, MarkedAt}
@@ -34,6 +34,18 @@ module _ (f : Format) (m : Model) (k : ℕ) where
         count = omega arith;
         grid = ap₂ grid_of d.odds_now d.stamps_now;
         used = omega arith;
+      }
+
+  -- a mark knows of a model its cell's steps and nothing else
+  pub by_the_steps : (occupied : Bool) (at : ℕ) (odds odds' : List Float) (stamps stamps' : List ℕ) (n : ℕ) (other : Model)
+      → steps_at m at ≡ steps_at other at → Applied f (one at occupied) m k odds stamps n odds' stamps'
+      → Applied f (one at occupied) other k odds stamps n odds' stamps'
+  unfolding marked changes mark_at
+  by_the_steps occupied at odds odds' stamps stamps' n other same a =
+      record {
+        count = a.count ∙ ap (λ (s : Steps). cond (mark_on f occupied s k at odds stamps).changed 1 0 + 0) same;
+        grid = a.grid ∙ ap (λ (s : Steps). with_cell (grid_of odds stamps) at (mark_on f occupied s k at odds stamps).cell) same;
+        used = a.used;
       }
 
   pub both_applied : (xs ys : List Mark) (odds odds' odds'' : List Float) (stamps stamps' stamps'' : List ℕ) (a b : ℕ)

@@ -7,13 +7,14 @@ ghost use Rattle.laws.specs.Checks.{Ready};
 ghost use Rattle.rules.specs.Coordinates.{flat_index};
 ghost use Rattle.rules.specs.MarksAndFrames.{steps_at, highest_frame};
 ghost use Rattle.rules.specs.OneBeam.{mark_of};
+ghost use Rattle.types.specs.Models.{model_of};
 ghost use Rattle.grid_map.specs.Heads.{head_of};
 ghost use Rattle.marks.specs.Marking.{MarkedAt, steps_of};
 ghost use Rattle.beam.specs.Applying.{Applied, one};
 
 use grid_map::{Grid, GridMap};
-use marks::{Steps, mark_free_at, mark_occupied_at};
-use types::Frame;
+use marks::{Steps, mark_free_at, mark_occupied_at, steps_of};
+use types::{Frame, Model};
 
 // By the steps of the cell. The place is one of the lists', and the frame one that a sweep can have: whoever calls has
 // checked the head and found the place.
@@ -54,8 +55,29 @@ pub fn mark_on<E: Grid>(
     mark_place(odds, stamps, at, steps, map.frame, occupied)
 }
 
-// A mark as the walks add it up: one where it changed the cell. The place is one of the lists'. A branch: the walks
-// took a tenth longer with a cast of the bool.
+// A mark as the walks add it up: one where it changed the cell. By a model of one pair; place and frame as above. A
+// branch: the walks took a tenth longer with a cast of the bool.
+pub fn mark_counted_by(
+    odds: &mut [f64],
+    stamps: &mut [u32],
+    at: usize,
+    model: Model,
+    frame: Frame,
+    occupied: bool,
+) -> u64
+    requires in_odds { at < length odds.old }
+    requires in_stamps { at < length stamps.old }
+    requires of_a_sweep { frame.0 ≤ highest_frame }
+    ensures { Applied binary64 (one at occupied) (model_of model) frame.0
+        odds.old stamps.old result odds.new stamps.new }
+{
+    if mark_place(odds, stamps, at, steps_of(model), frame, occupied) {
+        return 1;
+    }
+    0
+}
+
+// The same on a map, by the model of the cell's band. The place is one of the lists'.
 pub fn mark_counted<E: Grid>(
     map: GridMap<E, E::Model>,
     odds: &mut [f64],
@@ -68,10 +90,8 @@ pub fn mark_counted<E: Grid>(
     ensures { Applied binary64 (one at occupied) (E.model_of map.extents map.model) map.frame.0
         odds.old stamps.old result odds.new stamps.new }
 {
-    if mark_on(map, odds, stamps, at, occupied) {
-        return 1;
-    }
-    0
+    let model = map.extents.model_at(map.model, at);
+    mark_counted_by(odds, stamps, at, model, map.frame, occupied)
 }
 
 pub fn mark_cell<E: Grid>(

@@ -17,6 +17,12 @@ pub trait Stepped: Axes {
         requires cuts { T (cuts_in_bounds (Self.extents self) (Self.model_of self model)) }
         ensures { steps_of result ≡ Marks.steps_at (Self.model_of self model) place };
 
+    // The model of the cell's band, as above.
+    fn model_at(self, model: Self::Model, place: usize) -> Model
+        requires in_bounds { InBounds (Self.extents self) }
+        requires cuts { T (cuts_in_bounds (Self.extents self) (Self.model_of self model)) }
+        ensures { Marks.steps_at (model_of result) place ≡ Marks.steps_at (Self.model_of self model) place };
+
     fn ceiling(self, model: Self::Model) -> f64
         ensures { result ≡ (Self.model_of self model).ceiling };
 }
@@ -24,6 +30,10 @@ pub trait Stepped: Axes {
 impl Stepped for Extents2 {
     fn steps_at(self, model: Model, _place: usize) -> Steps {
         steps_of(model)
+    }
+
+    fn model_at(self, model: Model, _place: usize) -> Model {
+        model
     }
 
     fn ceiling(self, model: Model) -> f64 {
@@ -34,6 +44,10 @@ impl Stepped for Extents2 {
 impl Stepped for Extents3 {
     fn steps_at(self, model: Bands, place: usize) -> Steps {
         steps_of(model_at(self, model, place))
+    }
+
+    fn model_at(self, model: Bands, place: usize) -> Model {
+        model_at(self, model, place)
     }
 
     fn ceiling(self, model: Bands) -> f64 {
