@@ -3,9 +3,11 @@
 // premises `AreBytes`, `Are64` and `Held` of the record's and the sweep file's theorems.
 #![tactic(auto)]
 
+ghost use Rattle.c_types.specs.Heads as CHeads;
 ghost use Rattle.grid_map.specs.Heads.{head2, head3};
 ghost use Rattle.record_laws.specs.Words.{AreBytes, Is64, Are64, Held};
 
+use c_types::{CMap2, CMap3};
 use grid_map::{GridMap2, GridMap3};
 use types::Pair;
 
@@ -52,4 +54,17 @@ pub fn map_held3(map: GridMap3, odds: &[f64])
     pair_held(map.model.middle);
     pair_held(map.model.high);
     number_held(map.model.ceiling);
+}
+
+// The same of every head that C hands over.
+pub fn c_map_held2(map: CMap2, odds: &[f64])
+    ensures { Held (CHeads.head2 map) odds.now }
+{
+    map_held2(GridMap2::from(map), odds);
+}
+
+pub fn c_map_held3(map: CMap3, odds: &[f64])
+    ensures { Held (CHeads.head3 map) odds.now }
+{
+    map_held3(GridMap3::from(map), odds);
 }

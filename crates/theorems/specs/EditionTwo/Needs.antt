@@ -22,6 +22,9 @@ use Rattle.types.specs.declared.points.Extents2.{Extents2}
 use Rattle.types.specs.declared.points.Extents3.{Extents3}
 use Rattle.types.specs.declared.model.Model.{Model}
 use Rattle.types.specs.declared.model.Bands.{Bands}
+use Rattle.c_types.specs.Heads as CHeads
+use Rattle.c_types.specs.declared.heads.CMap2.{CMap2}
+use Rattle.c_types.specs.declared.heads.CMap3.{CMap3}
 use Rattle.theorems.specs.MapRecord.Needs.{model, head_of, four, banded, other_pair}
 
 -- of an open sweep: stamps of frame 1, free and occupied, and 0
@@ -63,6 +66,9 @@ pub record EditionNeeds : Type 0 where
   -- Every map that a caller has meets the premise on the cuts: none on two axes, and two on three.
   pub cuts_of_two : (m : GridMap Extents2 Model) → length (head2 m).model.above ≡ cuts_for 2
   pub cuts_of_three : (m : GridMap Extents3 Bands) → length (head3 m).model.above ≡ cuts_for 3
+  -- So does every map that C hands over.
+  pub cuts_of_c_two : (m : CMap2) → length (CHeads.head2 m).model.above ≡ cuts_for 2
+  pub cuts_of_c_three : (m : CMap3) → length (CHeads.head3 m).model.above ≡ cuts_for 3
   -- A stamp of frame 2, above the stored one, breaks its row, the one behind the first row of odds.
   pub stamp_too_high : edition_writable flat true (record { odds = four; stamps = 4 ∷ 0 ∷ 0 ∷ 0 ∷ [] }) 112 ≡ refused (broken_record 68)
   -- Three axes and no cuts, written or moved up: behind the first pair the second is looked for and not found.
@@ -93,6 +99,8 @@ edition_needs =
       open-three = (refl, refl);
       cuts_of_two = λ m. refl;
       cuts_of_three = λ m. refl;
+      cuts_of_c_two = λ m. refl;
+      cuts_of_c_three = λ m. refl;
       stamp_too_high = refl;
       cuts_needed = refl;
       cuts-of-the-move-needed = (refl, refl);
