@@ -15,7 +15,9 @@ use Rattle.types.specs.Refusals.{refusal_of}
 use Rattle.types.specs.Answers.{answer_of, found_of, mark_answer, count_answer, sweep_answer, swept_of, move_answer, moved_of, set_answer}
 use Rattle.types.specs.Answers.{cell_read, odds_answer, sample_read2, sample_read3, sample_answer2, sample_answer3, cell_answer2, cell_answer3}
 use Rattle.types.proofs.Injective.{Injective, of_back, cell2_injective, cell3_injective, sample2_injective, sample3_injective}
-use Rattle.std.specs.Prelude.{Ok, Err, Some, None}
+use Rattle.std.specs.Prelude.{Result, Ok, Err, Some, None}
+use Rattle.std.specs.Prelude as Prelude
+use Rattle.std.proofs.Math.Option.{Option, some, none}
 
 -- a refusal from its number and values; 7 has two cases, told apart by how many values it gives
 pub value : Paper.Refusal → ℕ → ℕ
@@ -73,6 +75,25 @@ refusal_there R.Chart = refl
 
 pub refusal_injective : Injective refusal_of
 refusal_injective = of_back refusal_of refusal_back refusal_there
+
+-- the way back from an answer, by that of what was asked for, and from what may be missing
+abbrev pub answer_back : {T A : Type 0} → (A → T) → Answer A → Result T Refusal.Refusal
+answer_back back (given x) = Ok (back x)
+answer_back back (refused r) = Err (refusal_back r)
+
+pub answer_there : {T A : Type 0} (f : T → A) (back : A → T) → ((x : T) → back (f x) ≡ x)
+    → (a : Result T Refusal.Refusal) → answer_back back (answer_of f a) ≡ a
+answer_there f back there (Ok x) = ap Ok (there x)
+answer_there f back there (Err r) = ap Err (refusal_there r)
+
+abbrev pub found_back : {T A : Type 0} → (A → T) → Option A → Prelude.Option T
+found_back back (some x) = Some (back x)
+found_back back none = None
+
+pub found_there : {T A : Type 0} (f : T → A) (back : A → T) → ((x : T) → back (f x) ≡ x)
+    → (a : Prelude.Option T) → found_back back (found_of f a) ≡ a
+found_there f back there (Some x) = ap Some (there x)
+found_there f back there None = refl
 
 -- an answer's map is injective where that of what was asked for is, and so is the map of what may be missing
 pub answer_injective : {T A : Type 0} (f : T → A) → Injective f → Injective (answer_of f)
